@@ -1,0 +1,3 @@
+pub mod Permutation
+pub mod Row
+pub mod State

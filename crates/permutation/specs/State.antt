@@ -1,0 +1,13 @@
+-- What a list of words must be to stand for a state.
+-- Assumes nothing.
+use mathlib.Core.Path.{_≡_}
+use mathlib.Core.List.{List}
+use Prim.Native.Nat.{ℕ, _^_}
+use lib.ListN.{length}
+use Rattle.word.specs.Word.{Below}
+
+pub record State (s : List ℕ) : Type 0 where
+  -- five words
+  pub five : length s ≡ 5
+  -- of 64 bits each
+  pub words : Below (2 ^ 64) s

@@ -1,0 +1,4 @@
+pub mod Bits
+pub mod Rotation
+pub mod Circuit
+pub mod Arrays
