@@ -1,4 +1,5 @@
--- The checked examples of document 01 that speak of the permutation, as a single fact that the checker computes.
+-- The checked examples of document 01 that speak of the permutation, as a single fact that the checker computes: two entries of S, a one in x0 and a one
+-- in x2 through the linear layer, and the run of the hash's start.
 -- Assumes nothing.
 use mathlib.Core.Path.{_≡_, refl}
 use mathlib.Core.List.{[], _∷_}

@@ -1,4 +1,4 @@
--- What a list of words must be to stand for a state.
+-- What a list of numbers must be to stand for a state of the permutation.
 -- Assumes nothing.
 use mathlib.Core.Path.{_≡_}
 use mathlib.Core.List.{List}
@@ -7,7 +7,7 @@ use lib.ListN.{length}
 use Rattle.word.specs.Word.{Below}
 
 pub record State (s : List ℕ) : Type 0 where
-  -- five words
+  -- it has five words
   pub five : length s ≡ 5
-  -- of 64 bits each
+  -- each of 64 bits
   pub words : Below (2 ^ 64) s

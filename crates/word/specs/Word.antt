@@ -1,4 +1,5 @@
--- Words as numbers, told by their bits: place 0 is the lowest. Exclusive or is the library's `bitXor`, which `xor-bits` of proofs/Circuit.antt tells by bits.
+-- Words as numbers, told by their bits, of which place 0 is the lowest. Exclusive or is the library's own `bitXor`.
+-- proofs/ has a law on what each means bit by bit: `bit-word`, `bit-number`, `rotr-bits`, `xor-bits`.
 -- Assumes nothing.
 use mathlib.Core.List.{List, [], _∷_, map}
 use Prim.Native.Nat.{ℕ, zero, suc, _+_, _-_, _*_, _/_, _%_, _^_, _<_}
@@ -22,7 +23,7 @@ number (b ∷ bs) = b * 2 ^ length bs + number bs
 unfoldable pub column : ℕ → List ℕ → ℕ
 column j xs = number (map (bit j) xs)
 
--- a word of w bits rotated right by n places: its n lowest bits go on top. `rotr-bits` of proofs/Rotation.antt tells it by bits
+-- a word of w bits rotated right by n places: its n lowest bits go on top
 unfoldable pub rotr : ℕ → ℕ → ℕ → ℕ
 rotr w n x = x / 2 ^ n + (x % 2 ^ n) * 2 ^ (w - n)
 

@@ -1,0 +1,11 @@
+/* The same functions in plain C, as the proved code's peers: compiled by gcc -O3, in a file of their own so that nothing is inlined into the timing loop. */
+#ifndef PLAIN_H
+#define PLAIN_H
+
+#include <stddef.h>
+#include <stdint.h>
+
+uint32_t plain_permute_row(uint64_t *row, size_t length);
+uint64_t plain_permute_chain(uint64_t x0, uint64_t times);
+
+#endif

@@ -1,0 +1,105 @@
+//! The linked permutation against the printed state, the vectors of the hash and the reference, and its refusals.
+use linked::{permute_chain, permute_row};
+use reference::{hash, hash_vectors, hex, permute, HASH_START};
+
+/// Permutes a state by the linked function.
+fn permute_linked(state: &mut [u64; 5]) {
+    assert_eq!(permute_row(state), 0);
+}
+
+/// A generator of test numbers (splitmix64): the same numbers in every run.
+struct Numbers(u64);
+
+impl Numbers {
+    fn next(&mut self) -> u64 {
+        self.0 = self.0.wrapping_add(0x9e3779b97f4a7c15);
+        let mut z = self.0;
+        z = (z ^ z >> 30).wrapping_mul(0xbf58476d1ce4e5b9);
+        z = (z ^ z >> 27).wrapping_mul(0x94d049bb133111eb);
+        z ^ z >> 31
+    }
+}
+
+fn assert_agrees(state: [u64; 5]) {
+    let (mut linked, mut expected) = (state, state);
+    permute_linked(&mut linked);
+    permute(&mut expected);
+    assert_eq!(linked, expected, "permuting {state:016x?}");
+}
+
+#[test]
+fn the_hash_state_after_its_first_run() {
+    let mut state = [HASH_START, 0, 0, 0, 0];
+    permute_linked(&mut state);
+    let printed = [
+        0xee9398aadb67f03d,
+        0x8bb21831c60f1002,
+        0xb48a92db98d5da62,
+        0x43189921b8f8e3e8,
+        0x348fa5c9d525e140,
+    ];
+    assert_eq!(state, printed);
+}
+
+#[test]
+fn the_hash_vectors() {
+    let vectors = hash_vectors(include_str!("../../data/hash.txt"));
+    assert_eq!(vectors.len(), 139);
+    for (message, output) in vectors {
+        assert_eq!(hex(&hash(permute_linked, &message)), output, "{} bytes", message.len());
+    }
+}
+
+#[test]
+fn states_of_one_bit_and_of_all_but_one() {
+    assert_agrees([0; 5]);
+    assert_agrees([u64::MAX; 5]);
+    for bit in 0..320 {
+        let mut state = [0; 5];
+        state[bit / 64] = 1 << (bit % 64);
+        assert_agrees(state);
+        assert_agrees(state.map(|word| !word));
+    }
+}
+
+#[test]
+fn random_states() {
+    let mut numbers = Numbers(2024);
+    for _ in 0..20_000 {
+        assert_agrees(std::array::from_fn(|_| numbers.next()));
+    }
+}
+
+#[test]
+fn rows_of_other_lengths_are_refused_and_left() {
+    let mut numbers = Numbers(7);
+    for length in (0..=200).filter(|&length| length != 5) {
+        let row: Vec<u64> = (0..length).map(|_| numbers.next()).collect();
+        let mut lent = row.clone();
+        assert_eq!(permute_row(&mut lent), 7, "{length} words");
+        assert_eq!(lent, row, "{length} words");
+    }
+}
+
+#[test]
+fn only_the_lent_words_change() {
+    let mut numbers = Numbers(11);
+    let buffer: Vec<u64> = (0..15).map(|_| numbers.next()).collect();
+    for start in 0..=10 {
+        let (mut lent, mut expected) = (buffer.clone(), buffer.clone());
+        assert_eq!(permute_row(&mut lent[start..start + 5]), 0);
+        permute((&mut expected[start..start + 5]).try_into().unwrap());
+        assert_eq!(lent, expected, "five words from {start} on");
+    }
+}
+
+#[test]
+fn chains_of_permutations() {
+    for x0 in [0, 1, HASH_START, u64::MAX] {
+        let mut state = [x0, 0, 0, 0, 0];
+        for times in 0..100 {
+            assert_eq!(permute_chain(x0, times), state[0], "{x0:x}, {times} times");
+            permute(&mut state);
+        }
+    }
+}
