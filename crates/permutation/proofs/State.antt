@@ -1,6 +1,6 @@
 -- The law for the layers above: what comes out of the permutation is a state again, five words of 64 bits.
 -- Assumes nothing.
-use mathlib.Core.Path.{_≡_, refl}
+use mathlib.Core.Path.{refl}
 use mathlib.Core.List.{List}
 use Prim.Native.Nat.{ℕ, zero, suc, _-_, _^_, _≤_, _<_}
 use lib.Dec.{T, leb, lit≤}

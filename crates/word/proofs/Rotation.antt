@@ -1,6 +1,6 @@
 -- Rotation, over every width and every number of places: by shifts, in range, and told by bits.
 -- Assumes nothing.
-use mathlib.Core.Path.{_≡_, refl, sym, ap, ap₂, _∙_, subst}
+use mathlib.Core.Path.{_≡_, sym, ap, ap₂, _∙_, subst}
 use Prim.Native.Nat.{ℕ, zero, suc, _+_, _-_, _*_, _/_, _%_, _^_, _≤_, _<_}
 use native.Mathlib.Nat.{add-comm, mod-lt, mod-eq-of-lt, sub-add-cancel, mul-mod-left, add-zero, lt-of-le-of-lt, le-of-lt, div-one, mod-self, mod-one, mul-one, zero-mul, sub-zero, pow-zero, add-mod-left}
 use native.Mathlib.Decide.{decLt}

@@ -43,10 +43,13 @@ fn the_hash_state_after_its_first_run() {
 
 #[test]
 fn the_hash_vectors() {
-    let vectors = hash_vectors(include_str!("../../data/hash.txt"));
-    assert_eq!(vectors.len(), 139);
-    for (message, output) in vectors {
-        assert_eq!(hex(&hash(permute_linked, &message)), output, "{} bytes", message.len());
+    for (message, output) in hash_vectors() {
+        assert_eq!(
+            hex(&hash(permute_linked, &message)),
+            output,
+            "{} bytes",
+            message.len()
+        );
     }
 }
 

@@ -61,16 +61,19 @@ pub fn hash(mut permute: impl FnMut(&mut [u64; 5]), message: &[u8]) -> [u8; 32] 
     output
 }
 
-/// One line of a file of vectors of the hash: the message's length, whose bytes count up from 0, and the output.
-pub fn hash_vectors(text: &str) -> Vec<(Vec<u8>, String)> {
-    text.lines()
+/// Outside vectors of the hash: messages, whose bytes count up from 0, with their outputs in hex.
+pub fn hash_vectors() -> Vec<(Vec<u8>, String)> {
+    let vectors: Vec<_> = include_str!("../../data/hash.txt")
+        .lines()
         .filter(|line| !line.starts_with('#'))
         .map(|line| {
             let (length, output) = line.split_once(' ').expect("two columns");
             let length: usize = length.parse().expect("a length");
             ((0..length).map(|i| i as u8).collect(), output.to_owned())
         })
-        .collect()
+        .collect();
+    assert_eq!(vectors.len(), 139, "lines of data/hash.txt");
+    vectors
 }
 
 /// Bytes as lower-case hex.
@@ -91,10 +94,13 @@ mod tests {
 
     #[test]
     fn the_hash_vectors() {
-        let vectors = hash_vectors(include_str!("../../data/hash.txt"));
-        assert_eq!(vectors.len(), 139);
-        for (message, output) in vectors {
-            assert_eq!(hex(&hash(permute, &message)), output, "{} bytes", message.len());
+        for (message, output) in hash_vectors() {
+            assert_eq!(
+                hex(&hash(permute, &message)),
+                output,
+                "{} bytes",
+                message.len()
+            );
         }
     }
 }
