@@ -10,7 +10,7 @@ enum { PAIRS = 1001, BATCH = 5000 };
 
 static const uint64_t start[5] = {0x00400c0000000100u, 0, 0, 0, 0};
 
-/* What a batch gives. It is read below and by nobody else; without it the compiler could drop the work. */
+/* What the last batch gave. */
 static uint64_t given;
 
 static void proved_chain(void *with) {

@@ -21,7 +21,7 @@ pub round-state : (i : ℕ) (s : List ℕ) → State (round i s)
 unfolding round diffuse substitute atEveryPlace
 round-state i s = record {
   five = refl;
-  words = (mixed 19 28 4 tt tt, (mixed 61 39 3 tt tt, (mixed 1 6 2 tt tt, (mixed 10 17 1 tt tt, (mixed 7 41 0 tt tt, tt)))));
+  words = (mixed _ _ 4 tt tt, (mixed _ _ 3 tt tt, (mixed _ _ 2 tt tt, (mixed _ _ 1 tt tt, (mixed _ _ 0 tt tt, tt)))));
 }
   where
     placed : (b : ℕ) → ℕ

@@ -54,7 +54,7 @@ diffuse s = mix 19 28 (at s 0) ∷ mix 61 39 (at s 1) ∷ mix 1 6 (at s 2) ∷ m
 unfoldable pub round : ℕ → List ℕ → List ℕ
 round i s = diffuse (substitute (addConstant i s))
 
--- the last n of the twelve rounds [p^n]: round 12 - n, then the last n - 1
+-- the last n of the twelve rounds, n up to 12: round 12 - n, then the last n - 1. [p^12] is all of them; which rounds a smaller n has, source document 001 says
 unfoldable pub permute : ℕ → List ℕ → List ℕ
 permute zero s = s
 permute (suc n) s = permute n (round (12 - suc n) s)

@@ -6,14 +6,13 @@ use Prim.Native.Nat.{ℕ}
 use lib.Dec.{eqb}
 use lib.ListN.{length}
 
--- the row has five words
-abbrev pub isState : List ℕ → Bool
-isState row = eqb (length row) 5
+abbrev pub hasFiveWords : List ℕ → Bool
+hasFiveWords row = eqb (length row) 5
 
 -- what is answered: 0, or document 01's refusal 7
 abbrev pub rowAnswer : List ℕ → ℕ
-rowAnswer row = cond (isState row) 0 7
+rowAnswer row = cond (hasFiveWords row) 0 7
 
 -- what the row holds afterwards: f of it, or, refused, what it held before
 abbrev pub rowAfter : (List ℕ → List ℕ) → List ℕ → List ℕ
-rowAfter f row = cond (isState row) (f row) row
+rowAfter f row = cond (hasFiveWords row) (f row) row

@@ -8,7 +8,7 @@ ghost use Rattle.permutation.specs.Row.{rowAnswer, rowAfter};
 // Document 01's refusal 7: the row is not of five words.
 pub const NOT_FIVE_WORDS: u32 = 7;
 
-// x rotated right by n places, of which 0 is one.
+// x rotated right by n places, 0 to 63. By 0 places the left shift would be by 64, which is undefined: it is by 0 instead.
 fn rotate(x: u64, n: u64) -> u64
     requires { ⌜ n < 64 ⌝ }
     ensures { λ r. ⌜ r ≡ rotr 64 n x ⌝ }
@@ -71,7 +71,7 @@ fn round(s: [u64; 5], i: u64) -> [u64; 5]
     diffuse(substitute([s[0], s[1], s[2] ^ c, s[3], s[4]]))
 }
 
-// The last n of the twelve rounds.
+// The last n of the twelve rounds: the definitions' `permute n`.
 fn last_rounds(s: [u64; 5], n: u64) -> [u64; 5]
     requires { ⌜ n ≤ 12 ⌝ }
     ensures { λ r. ⌜ r ≡ spec.permute n s ⌝ }
@@ -84,7 +84,7 @@ fn last_rounds(s: [u64; 5], n: u64) -> [u64; 5]
     t
 }
 
-// The twelve rounds, document 01's run.
+// The twelve rounds: document 01's run.
 pub fn permute(s: [u64; 5]) -> [u64; 5]
     ensures { λ r. ⌜ r ≡ spec.run s ⌝ }
 {

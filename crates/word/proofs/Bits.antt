@@ -9,7 +9,7 @@ use native.Mathlib.Numerals.{one-add}
 use native.Mathlib.Omega.{arith}
 use lib.Dec.{lit<}
 use lib.Arith.{digits-lt}
-use lib.Pow.{high, mod-pow-add, shr-shr}
+use lib.Pow.{high, split, mod-pow-add, shr-shr}
 use lib.ListN.{length, getD, length-append}
 use lib.Bits.{block-half, block-odd, bitAnd, bitXor, and-shr, and-mod, xor-shr, xor-mod}
 use Rattle.word.specs.Word.{bit, word, number, Below}
@@ -41,18 +41,25 @@ bit-low zero (suc k) a r l = omega (arith, block-odd a k r)
 bit-low (suc j) (suc k) a r l =
     bit-half j (a * 2 ^ suc k + r) ∙ ap (bit j) (block-half a k r) ∙ bit-low j k a (r / 2) (le-of-suc-le-suc l) ∙ sym (bit-half j r)
 
+-- the bits of a number's n lowest are the number's own
+pub bit-mod : (n j x : ℕ) → j < n → bit j (x % 2 ^ n) ≡ bit j x
+bit-mod n j x l = sym (bit-low j n (x / 2 ^ n) (x % 2 ^ n) l) ∙ ap (bit j) (split x n)
+
 -- from place k on, what stands below it does not count
 pub bit-high : (k j a r : ℕ) → r < 2 ^ k → bit (k + j) (a * 2 ^ k + r) ≡ bit j a
 bit-high k j a r h = sym (bit-shr k j (a * 2 ^ k + r)) ∙ ap (bit j) (high a k h)
 
 -- ---- words by their bits
 
+-- a bit on top of k bits
+bit-on-top : (k : ℕ) {b r : ℕ} → b < 2 → r < 2 ^ k → b * 2 ^ k + r < 2 ^ suc k
+bit-on-top k {b} {r} hb hr = subst (λ (n : ℕ). b * 2 ^ k + r < n) (mul-comm 2 (2 ^ k) ∙ sym (pow-suc 2 k)) (digits-lt hb hr)
+
 -- w bits make a number of w bits
 pub word-lt : (w : ℕ) (f : ℕ → ℕ) → ((j : ℕ) → f j < 2) → word w f < 2 ^ w
 unfolding word
 word-lt zero f h = lit< tt
-word-lt (suc w) f h =
-    subst (λ (n : ℕ). f w * 2 ^ w + word w f < n) (mul-comm 2 (2 ^ w) ∙ sym (pow-suc 2 w)) (digits-lt (h w) (word-lt w f h))
+word-lt (suc w) f h = bit-on-top w (h w) (word-lt w f h)
 
 -- words with the same bits are the same
 word-same : (w : ℕ) (f g : ℕ → ℕ) → ((j : ℕ) → j < w → f j ≡ g j) → word w f ≡ word w g
@@ -88,8 +95,7 @@ bit-word (suc w) f h j l =
 number-lt : (bs : List ℕ) → Below 2 bs → number bs < 2 ^ length bs
 unfolding number
 number-lt [] h = lit< tt
-number-lt (b ∷ bs) h =
-    subst (λ (n : ℕ). b * 2 ^ length bs + number bs < n) (mul-comm 2 (2 ^ length bs) ∙ sym (pow-suc 2 (length bs))) (digits-lt (h .0) (number-lt bs (h .1)))
+number-lt (b ∷ bs) h = bit-on-top (length bs) (h .0) (number-lt bs (h .1))
 
 -- the bit that n others follow stands at place n
 pub bit-number : (xs : List ℕ) (b : ℕ) (bs : List ℕ) → Below 2 (xs ++ b ∷ bs) → bit (length bs) (number (xs ++ b ∷ bs)) ≡ b

@@ -5,10 +5,10 @@ use Prim.Native.Nat.{ℕ, zero, suc, _+_, _-_, _*_, _/_, _%_, _^_, _≤_, _<_}
 use native.Mathlib.Nat.{add-comm, mod-lt, mod-eq-of-lt, sub-add-cancel, mul-mod-left, add-zero, lt-of-le-of-lt, le-of-lt, div-one, mod-self, mod-one, mul-one, zero-mul, sub-zero, pow-zero, add-mod-left}
 use native.Mathlib.Decide.{decLt}
 use native.Mathlib.Omega.{arith}
-use lib.Pow.{mod-pow-add, shr-lt, shr-le, shl-shr, pow-pos, split}
+use lib.Pow.{mod-pow-add, shr-lt, shr-le, shl-shr, pow-pos}
 use lib.Bits.{bitOr, or-shifted-r, or-lt, or-self}
 use Rattle.word.specs.Word.{bit, word, rotr}
-use Rattle.word.proofs.Bits.{bit-shr, bit-low, bit-high, is-word}
+use Rattle.word.proofs.Bits.{bit-shr, bit-mod, bit-low, bit-high, is-word}
 
 -- what stays of x in a word of n + m bits that is shifted left by m: its n low bits
 shifted : (m n x : ℕ) → x * 2 ^ m % 2 ^ (n + m) ≡ x % 2 ^ n * 2 ^ m
@@ -49,10 +49,6 @@ pub rotr-lt : (w n x : ℕ) → n ≤ w → x < 2 ^ w → rotr w n x < 2 ^ w
 rotr-lt w n x l h =
     subst (λ (y : ℕ). y < 2 ^ w) (by-shifts w n x l h)
     (or-lt w (x / 2 ^ n) (x * 2 ^ (w - n) % 2 ^ w) (lt-of-le-of-lt (shr-le x n) h) (mod-lt (x * 2 ^ (w - n)) (pow-pos w)))
-
--- the bits of x's n lowest, which are x's own
-bit-mod : (n j x : ℕ) → j < n → bit j (x % 2 ^ n) ≡ bit j x
-bit-mod n j x l = sym (bit-low j n (x / 2 ^ n) (x % 2 ^ n) l) ∙ ap (bit j) (split x n)
 
 -- the bit at place j of the rotated word is the one n places above, where the places go round
 pub rotr-bits : (w n x : ℕ) → n ≤ w → x < 2 ^ w → rotr w n x ≡ word w (λ j. bit ((j + n) % w) x)

@@ -76,7 +76,8 @@ fn random_states() {
 #[test]
 fn rows_of_other_lengths_are_refused_and_left() {
     let mut numbers = Numbers(7);
-    for length in (0..=200).filter(|&length| length != 5) {
+    // 261 and 65,541 are 5 in their lowest bytes.
+    for length in (0..=300).filter(|&length| length != 5).chain([65_541]) {
         let row: Vec<u64> = (0..length).map(|_| numbers.next()).collect();
         let mut lent = row.clone();
         assert_eq!(permute_row(&mut lent), 7, "{length} words");
@@ -105,4 +106,9 @@ fn chains_of_permutations() {
             permute(&mut state);
         }
     }
+    let mut state = [HASH_START, 0, 0, 0, 0];
+    for _ in 0..65_537 {
+        permute(&mut state);
+    }
+    assert_eq!(permute_chain(HASH_START, 65_537), state[0]);
 }
