@@ -1,7 +1,7 @@
 /* Permutes the start of the hash and prints the five words; then lends a row of four, which is refused.
  *
  *     rt staticlib bench
- *     cc -Iinclude -o permute examples/permute.c target/staticlib/libbench.a && ./permute
+ *     cc -Iinclude -o target/permute examples/permute.c target/staticlib/libbench.a && target/permute
  */
 #include "bench.h"
 
