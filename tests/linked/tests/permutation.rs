@@ -1,6 +1,6 @@
 //! The linked permutation against the printed state, the vectors of the hash and the reference, and its refusals.
 use linked::{permute_chain, permute_row};
-use reference::{hash, hash_vectors, hex, permute, HASH_START};
+use reference::{assert_hash_vectors, permute, HASH_START};
 
 /// Permutes a state by the linked function.
 fn permute_linked(state: &mut [u64; 5]) {
@@ -43,14 +43,7 @@ fn the_hash_state_after_its_first_run() {
 
 #[test]
 fn the_hash_vectors() {
-    for (message, output) in hash_vectors() {
-        assert_eq!(
-            hex(&hash(permute_linked, &message)),
-            output,
-            "{} bytes",
-            message.len()
-        );
-    }
+    assert_hash_vectors(permute_linked);
 }
 
 #[test]
