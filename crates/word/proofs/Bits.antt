@@ -11,7 +11,7 @@ use lib.Dec.{lit<}
 use lib.Arith.{digits-lt}
 use lib.Pow.{high, split, mod-pow-add, shr-shr}
 use lib.ListN.{length, getD, length-append}
-use lib.Bits.{block-half, block-odd, bitAnd, bitXor, and-shr, and-mod, xor-shr, xor-mod}
+use lib.Bits.{block-half, block-odd, bitAnd, bitOr, bitXor, and-shr, and-mod, and-le-l, and-le-r, xor-shr, xor-mod, xor-add-and, or-add-and}
 use Rattle.word.specs.Word.{bit, word, number, Below}
 
 -- ---- one bit
@@ -123,6 +123,14 @@ bit-not (suc w) (suc j) a h l =
     let half : ((2 ^ suc w - 1) - a) / 2 ≡ (2 ^ w - 1) - a / 2 = omega (arith, pow-suc 2 w) in
     let less : a / 2 < 2 ^ w = omega (arith, pow-suc 2 w) in
     bit-half j ((2 ^ suc w - 1) - a) ∙ ap (bit j) half ∙ bit-not w j (a / 2) less (le-of-suc-le-suc l) ∙ ap (λ (n : ℕ). 1 - n) (sym (bit-half j a))
+
+-- an exclusive or is 0 where the two are equal, and nowhere else
+pub xor-none : (a b : ℕ) → bitXor a b ≡ 0 → a ≡ b
+xor-none a b h = omega (arith, xor-add-and a b, and-le-l a b, and-le-r a b)
+
+-- an or is 0 where both are
+pub or-none : (a b : ℕ) → bitOr a b ≡ 0 → (a ≡ 0) × (b ≡ 0)
+or-none a b h = omega (arith, or-add-and a b, and-le-l a b, and-le-r a b)
 
 -- ---- lists of words
 

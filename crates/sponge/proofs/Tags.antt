@@ -1,0 +1,67 @@
+-- The comparison of a tag.
+-- Assumes nothing.
+use mathlib.Core.Bool.{true, false, false≢true, decide}
+use mathlib.Core.Logic.{_≢_}
+use mathlib.Core.Path.{_≡_, refl, sym, ap, _∙_}
+use mathlib.Core.List.{List, List-discrete}
+use Prim.Native.Nat.{ℕ, _+_, _≤_, _<_}
+use native.Mathlib.Decide.{ℕ-discrete}
+use native.Mathlib.Nat.{zero-add}
+use native.Mathlib.Omega.{arith}
+use borrow.Author.Tests.{eq-eqb, ne-eqb}
+use lib.Dec.{eqb}
+use lib.ListN.{length, getD, take, length-take}
+use Rattle.word.specs.Bytes.{byteAt, bytesFrom}
+use Rattle.word.proofs.Bytes.{length-bytesFrom, take-bytesFrom, by-bytes, each-byte}
+use Rattle.sponge.specs.Record.{same}
+
+-- ---- lists are the same exactly where they are equal
+
+pub equal-same : (xs ys : List ℕ) → xs ≡ ys → same xs ys ≡ true
+unfolding same decide
+equal-same xs ys e = go (List-discrete ℕ-discrete xs ys)
+  where
+    go : (d : Dec (xs ≡ ys)) → decide d ≡ true
+    go (yes p) = refl
+    go (no n) = absurd (n e)
+
+pub other-same : (xs ys : List ℕ) → xs ≢ ys → same xs ys ≡ false
+unfolding same decide
+other-same xs ys ne = go (List-discrete ℕ-discrete xs ys)
+  where
+    go : (d : Dec (xs ≡ ys)) → decide d ≡ false
+    go (yes p) = absurd (ne p)
+    go (no n) = refl
+
+pub same-equal : (xs ys : List ℕ) → same xs ys ≡ true → xs ≡ ys
+unfolding same decide
+same-equal xs ys h = go (List-discrete ℕ-discrete xs ys) h
+  where
+    go : (d : Dec (xs ≡ ys)) → decide d ≡ true → xs ≡ ys
+    go (yes p) e = p
+    go (no n) e = absurd (false≢true e)
+
+-- ---- a tag, byte by byte
+
+-- the first i bytes of the tag are those of the words
+abbrev pub SameBelow : List ℕ → List ℕ → ℕ → Type 0
+SameBelow words tag i = (k : ℕ) → k < i → getD tag k 0 ≡ byteAt words k
+
+-- a tag that is longer than the block
+pub too-long : (tag words : List ℕ) (R : ℕ) → R < length tag → same tag (take (length tag) (bytesFrom 0 R words)) ≡ false
+too-long tag words R h =
+    other-same tag (take (length tag) (bytesFrom 0 R words)) (λ e. omega (arith, ap length e, length-take (length tag) (bytesFrom 0 R words), length-bytesFrom R 0 words))
+
+-- a number that is 0 exactly where all bytes of the tag are those of the words
+pub judged : (tag words : List ℕ) (R difference : ℕ) → length tag ≤ R
+    → (difference ≡ 0 → SameBelow words tag (length tag)) → (SameBelow words tag (length tag) → difference ≡ 0)
+    → eqb difference 0 ≡ same tag (take (length tag) (bytesFrom 0 R words))
+judged tag words R difference h to from = rw (take-bytesFrom (length tag) R 0 words h) (go (ℕ-discrete difference 0))
+  where
+    go : Dec (difference ≡ 0) → eqb difference 0 ≡ same tag (bytesFrom 0 (length tag) words)
+    go (yes e) =
+        eq-eqb difference 0 e
+        ∙ sym (equal-same tag (bytesFrom 0 (length tag) words) (by-bytes tag 0 words (λ i l. to e i l ∙ ap (byteAt words) (sym (zero-add i)))))
+    go (no n) =
+        ne-eqb difference 0 n
+        ∙ sym (other-same tag (bytesFrom 0 (length tag) words) (λ e. n (from (λ i l. each-byte tag 0 words e i l ∙ ap (byteAt words) (zero-add i)))))

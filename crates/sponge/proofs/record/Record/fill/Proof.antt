@@ -1,0 +1,58 @@
+-- `sponge::Record::fill` meets its contract.
+-- Assumes nothing.
+use mathlib.Core.Path.{_≡_, sym, _∙_}
+use mathlib.Core.Bool.{true, false}
+use Prim.Native.Nat.{_+_}
+use native.Mathlib.Omega.{arith}
+use borrow.Author.Tests.{eq-eqb, ne-eqb}
+use denote.Ref.{now}
+use lib.Dec.{eqb}
+use lib.ListN.{length}
+use Rattle.sponge.specs.Mode.{row}
+use Rattle.sponge.specs.Record.{inWords, runIf}
+use Rattle.sponge.specs.Parts.{filled}
+use Rattle.sponge.proofs.Modes.{rates}
+use borrow.Author.Needs.{needs}
+use Rattle.sponge.proofs.record.Record.fill.Statement.{statement}
+use Rattle.sponge.proofs.record.Record.fill.Tie as tie
+
+cast-xor-bytes : tie.Need-cast-xor-bytes
+cast-xor-bytes c = omega (arith, rates (c .before .before .args .self .mode) .feeds-inside)
+
+xor-bytes-requires : tie.Need-xor-bytes-requires
+xor-bytes-requires c κs = search needs
+
+add-if1 : tie.Need-add-if1
+add-if1 c = omega (arith, rates (c .before .before .before .args .self .mode) .feeds-inside)
+
+feed-rate-requires : tie.Need-feed-rate-requires
+feed-rate-requires c κs = search needs
+
+run-requires : tie.Need-run-requires
+run-requires c κs = search needs
+
+returns : tie.Need-returns
+unfolding filled runIf inWords
+returns c =
+    let a = c .before .before .before .before .before .before .args in
+    let full : eqb (a .place + length (now (a .bytes))) (row (a .self .mode) .feedRate) ≡ true = eq-eqb _ _ (c .before .if1 .taken ∙ c .before .before .feed-rate .ensures) in
+    rw (full, c .run .ensures, c .before .before .before .xor-bytes .ensures)
+
+returns-2 : tie.Need-returns-2
+unfolding filled runIf inWords
+returns-2 c =
+    let a = c .before .before .before .before .before .args in
+    let part : eqb (a .place + length (now (a .bytes))) (row (a .self .mode) .feedRate) ≡ false = ne-eqb _ _ (λ e. c .if1 .left (e ∙ sym (c .before .feed-rate .ensures))) in
+    rw (part, c .before .before .xor-bytes .ensures)
+
+pub fill-spec : {M : Type 1} → statement M
+fill-spec =
+    tie.close
+    (tie.spec
+    cast-xor-bytes
+    xor-bytes-requires
+    add-if1
+    feed-rate-requires
+    run-requires
+    returns
+    returns-2)

@@ -1,0 +1,5 @@
+pub mod Mode
+pub mod Sponge
+pub mod Record
+pub mod Parts
+pub mod Streaming

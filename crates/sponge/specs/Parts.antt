@@ -1,0 +1,19 @@
+-- What two private functions of the code promise, which go by parts of a block: proofs/Parts.antt relates them to the steps on single bytes.
+-- Assumes nothing.
+use mathlib.Core.Bool.{cond}
+use mathlib.Core.List.{List}
+use Prim.Native.Nat.{ℕ, _+_, _-_, _%_}
+use lib.Dec.{eqb}
+use lib.ListN.{length}
+use Rattle.word.specs.Bytes.{xorFrom}
+use Rattle.sponge.specs.declared.record.Record.{Record}
+use Rattle.sponge.specs.Mode.{Row}
+use Rattle.sponge.specs.Record.{inWords, runIf}
+
+-- a part of a block is fed at once: it goes to the places from p on, and a run follows where it fills the block
+unfoldable pub filled : Row → ℕ → List ℕ → Record → Record
+filled w p bs r = runIf (eqb (p + length bs) (w .feedRate)) (inWords (xorFrom p bs) r)
+
+-- how many bytes of the present block are drawn once d are drawn in all
+unfoldable pub used : Row → ℕ → ℕ
+used w d = cond (eqb d 0) 0 ((d - 1) % w .drawRate + 1)

@@ -1,0 +1,88 @@
+// Feeding: bytes are absorbed block by block, and the end of feeding pads the last block.
+use super::Record;
+use crate::mode::Mode;
+ghost use mathlib.Core.Path.{_≡_};
+ghost use Prim.Native.Nat.{_+_, _%_, _<_, _≤_};
+ghost use lib.ListN.{length};
+ghost use Rattle.sponge.specs.Mode.{row};
+ghost use Rattle.sponge.specs.Sponge.{flipIf};
+ghost use Rattle.sponge.specs.Record as spec;
+ghost use Rattle.sponge.specs.Parts.{filled};
+
+// The place in its block of the byte that n others came before.
+fn feed_place(mode: Mode, n: u64) -> usize
+    ensures { λ r. ⌜ r ≡ n % row mode .feedRate ⌝ }
+{
+    (n % mode.feed_rate() as u64) as usize
+}
+
+// The lowest bit of x4 flipped, where the mode does so.
+fn flip(mode: Mode, words: [u64; 5]) -> [u64; 5]
+    ensures { λ r. ⌜ r ≡ flipIf (row mode .flips) words ⌝ }
+{
+    if mode.flips() {
+        return state::xor_word(words, 4, 1);
+    }
+    words
+}
+
+impl Record {
+    // Bytes are fed. That feeding lasts is the caller's to test.
+    pub fn absorb(self, bytes: &[u8]) -> Record
+        ensures { λ r. ⌜ r ≡ spec.absorbed (now (bytes .entry)) self ⌝ }
+    {
+        let mode = self.mode;
+        let rate = mode.feed_rate();
+        let mut current = self;
+        let mut place = feed_place(mode, self.fed);
+        let mut done = 0;
+        while done < bytes.len() {
+            let end = done + state::shorter(rate - place, bytes.len() - done);
+            current = current.fill(place, &bytes[done..end]);
+            // A part that does not fill its block is the last.
+            place = 0;
+            done = end;
+        }
+        current.fed = std::num::wrapping_add_u64(self.fed, bytes.len() as u64);
+        current
+    }
+
+    // Bytes go to the block from a place on, and a run follows where they fill it.
+    fn fill(self, place: usize, bytes: &[u8]) -> Record
+        requires { ⌜ place + length (now bytes) ≤ row (self .mode) .feedRate ⌝ }
+        ensures { λ r. ⌜ r ≡ filled (row (self .mode)) place (now (bytes .entry)) self ⌝ }
+    {
+        let mode = self.mode;
+        let before = self.words;
+        let after = state::xor_bytes(before, place as u32, bytes);
+        let mut current = self;
+        current.words = after;
+        if place + bytes.len() == mode.feed_rate() {
+            return current.run();
+        }
+        current
+    }
+
+    // Feeding ends, if it lasts: hex 80, the flip in the modes that have it, and a run.
+    pub fn finish(self) -> Record
+        ensures { λ r. ⌜ r ≡ spec.finished self ⌝ }
+    {
+        if self.feeding {
+            return self.end_feeding();
+        }
+        self
+    }
+
+    fn end_feeding(self) -> Record
+        ensures { λ r. ⌜ r ≡ spec.endFeeding (row (self .mode)) (self .fed) self ⌝ }
+    {
+        let mode = self.mode;
+        let before = self.words;
+        let padded = state::xor_byte(before, feed_place(mode, self.fed), 0x80);
+        let last = flip(mode, padded);
+        let mut current = self;
+        current.words = last;
+        current.feeding = false;
+        current.run()
+    }
+}

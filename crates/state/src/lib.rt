@@ -1,0 +1,175 @@
+// The state as bytes: bytes are xored into its five words and copied out of them, whole words at a time where that can be.
+// Every function is total: a word past the end reads 0 and is not written.
+ghost use mathlib.Core.Path.{_≡_};
+ghost use mathlib.Core.Bool.{_&&_};
+ghost use Prim.Native.Nat.{_+_, _*_, _%_, _^_, _≤_, _<_, min};
+ghost use lib.ListN.{length, getD, take, drop};
+ghost use lib.Dec.{eqb, leb};
+ghost use lib.Seq.{sets};
+ghost use Rattle.word.specs.Bytes.{byteAt, bytesFrom, xorWord, xorAt, xorFrom, fromBytes, toBytes};
+
+// x xored into word j. A constant index at each store keeps the words in registers.
+pub fn xor_word(words: [u64; 5], j: usize, x: u64) -> [u64; 5]
+    ensures { λ r. ⌜ r ≡ xorWord j x words ⌝ }
+{
+    let a = words[0];
+    let b = words[1];
+    let c = words[2];
+    let d = words[3];
+    let e = words[4];
+    if j == 0 {
+        return [a ^ x, b, c, d, e];
+    }
+    if j == 1 {
+        return [a, b ^ x, c, d, e];
+    }
+    if j == 2 {
+        return [a, b, c ^ x, d, e];
+    }
+    if j == 3 {
+        return [a, b, c, d ^ x, e];
+    }
+    if j == 4 {
+        return [a, b, c, d, e ^ x];
+    }
+    [a, b, c, d, e]
+}
+
+// Word j.
+fn word_of(words: [u64; 5], j: usize) -> u64
+    ensures { λ r. ⌜ r ≡ getD words j 0 ⌝ }
+{
+    if j < 5 {
+        return words[j];
+    }
+    0
+}
+
+// Byte k of the state.
+pub fn byte_at(words: [u64; 5], k: usize) -> u8
+    ensures { λ r. ⌜ r ≡ byteAt words k ⌝ }
+{
+    let w = word_of(words, k / 8);
+    ((w >> (8 * (7 - k % 8))) % 256) as u8
+}
+
+// b xored into byte k of the state.
+pub fn xor_byte(words: [u64; 5], k: usize, b: u8) -> [u64; 5]
+    ensures { λ r. ⌜ r ≡ xorAt k b words ⌝ }
+{
+    xor_word(words, k / 8, (b as u64) << (8 * (7 - k % 8)))
+}
+
+// The shorter of two lengths.
+pub fn shorter(a: usize, b: usize) -> usize
+    ensures { λ r. ⌜ r ≡ min a b ⌝ }
+{
+    if a < b {
+        return a;
+    }
+    b
+}
+
+fn wide(b: u8) -> u64
+    ensures { λ r. ⌜ r ≡ b ⌝ }
+{
+    b as u64
+}
+
+// The number that the eight bytes from i on make, the first on top.
+fn word_at(bytes: &[u8], i: usize) -> u64
+    requires { ⌜ i + 8 ≤ length (now bytes) ⌝ }
+    ensures { λ r. ⌜ r ≡ fromBytes (take 8 (drop i (now (bytes .entry)))) ⌝ }
+{
+    wide(bytes[i]) << 56
+        | (wide(bytes[i + 1]) << 48
+            | (wide(bytes[i + 2]) << 40
+                | (wide(bytes[i + 3]) << 32
+                    | (wide(bytes[i + 4]) << 24
+                        | (wide(bytes[i + 5]) << 16
+                            | (wide(bytes[i + 6]) << 8 | wide(bytes[i + 7])))))))
+}
+
+// The eight bytes of x go to out from i on.
+fn put_word(out: &mut [u8], i: usize, x: u64)
+    requires { ⌜ i + 8 ≤ length (now out) ⌝ }
+    ensures { λ _. ⌜ now (out .exit) ≡ sets (now (out .entry)) i (toBytes 8 x) ⌝ }
+{
+    out[i] = (x / 0x0100_0000_0000_0000 % 256) as u8;
+    out[i + 1] = (x / 0x0001_0000_0000_0000 % 256) as u8;
+    out[i + 2] = (x / 0x0000_0100_0000_0000 % 256) as u8;
+    out[i + 3] = (x / 0x0000_0001_0000_0000 % 256) as u8;
+    out[i + 4] = (x / 0x0000_0000_0100_0000 % 256) as u8;
+    out[i + 5] = (x / 0x0000_0000_0001_0000 % 256) as u8;
+    out[i + 6] = (x / 0x0000_0000_0000_0100 % 256) as u8;
+    out[i + 7] = (x % 256) as u8;
+}
+
+// Bytes xored in from byte k on, one at a time.
+fn xor_each(words: [u64; 5], k: usize, bytes: &[u8]) -> [u64; 5]
+    requires { ⌜ k + length (now bytes) < 2 ^ 64 ⌝ }
+    ensures { λ r. ⌜ r ≡ xorFrom k (now (bytes .entry)) words ⌝ }
+{
+    let mut out = words;
+    let mut i = 0;
+    while i < bytes.len() {
+        let next = xor_byte(out, k + i, bytes[i]);
+        out = next;
+        i += 1;
+    }
+    out
+}
+
+// Whole words of bytes xored in from word j on.
+fn xor_words(words: [u64; 5], j: usize, bytes: &[u8]) -> [u64; 5]
+    requires { ⌜ (length (now bytes) % 8 ≡ 0) × (8 * j + length (now bytes) < 2 ^ 64) ⌝ }
+    ensures { λ r. ⌜ r ≡ xorFrom (8 * j) (now (bytes .entry)) words ⌝ }
+{
+    let mut out = words;
+    let mut i = 0;
+    while i < bytes.len() {
+        let next = xor_word(out, j + i / 8, word_at(bytes, i));
+        out = next;
+        i += 8;
+    }
+    out
+}
+
+// Bytes xored in from a place on.
+pub fn xor_bytes(words: [u64; 5], place: u32, bytes: &[u8]) -> [u64; 5]
+    ensures { λ r. ⌜ r ≡ xorFrom place (now (bytes .entry)) words ⌝ }
+{
+    let k = place as usize;
+    let head = shorter((8 - k % 8) % 8, bytes.len());
+    let middle = head + (bytes.len() - head) / 8 * 8;
+    let first = xor_each(words, k, &bytes[..head]);
+    let most = xor_words(first, (k + head) / 8, &bytes[head..middle]);
+    xor_each(most, k + middle, &bytes[middle..])
+}
+
+// Whether byte k begins a word of which all eight bytes are asked for.
+fn whole_word(k: usize, left: usize) -> bool
+    ensures { λ r. ⌜ r ≡ (eqb (k % 8) 0 && leb 8 left) ⌝ }
+{
+    if k % 8 == 0 {
+        return 8 <= left;
+    }
+    false
+}
+
+// The bytes from a place on go to out, as many as it holds.
+pub fn copy_bytes(words: [u64; 5], place: u32, out: &mut [u8])
+    ensures { λ _. ⌜ now (out .exit) ≡ bytesFrom place (length (now (out .entry))) words ⌝ }
+{
+    let k = place as usize;
+    let mut i = 0;
+    while i < out.len() {
+        if whole_word(k + i, out.len() - i) {
+            put_word(&mut *out, i, word_of(words, (k + i) / 8));
+            i += 8;
+        } else {
+            out[i] = byte_at(words, k + i);
+            i += 1;
+        }
+    }
+}

@@ -1,0 +1,43 @@
+-- Bytes of 64-bit words, the highest byte of a word first: byte k of some words is byte k % 8, from the top, of word k / 8.
+-- A word past the end reads 0, and is not written. proofs/Bytes.antt has the law that tells `xorAt` byte by byte, `xored-byte`.
+-- Assumes nothing.
+use mathlib.Core.List.{List, [], _∷_}
+use Prim.Native.Nat.{ℕ, zero, suc, _+_, _-_, _*_, _/_, _%_, _^_}
+use lib.ListN.{length, getD, set}
+use lib.Bits.{bitXor}
+
+-- what byte k counts in its word
+unfoldable pub weight : ℕ → ℕ
+weight k = 2 ^ (8 * (7 - k % 8))
+
+-- byte k of the words
+unfoldable pub byteAt : List ℕ → ℕ → ℕ
+byteAt ws k = getD ws (k / 8) 0 / weight k % 256
+
+-- n bytes of the words, from byte k on
+unfoldable pub bytesFrom : ℕ → ℕ → List ℕ → List ℕ
+bytesFrom k zero ws = []
+bytesFrom k (suc n) ws = byteAt ws k ∷ bytesFrom (suc k) n ws
+
+-- x xored into word j
+unfoldable pub xorWord : ℕ → ℕ → List ℕ → List ℕ
+xorWord j x ws = set ws j (bitXor (getD ws j 0) x)
+
+-- b xored into byte k
+unfoldable pub xorAt : ℕ → ℕ → List ℕ → List ℕ
+xorAt k b ws = xorWord (k / 8) (b * weight k) ws
+
+-- bytes xored into the bytes from k on
+unfoldable pub xorFrom : ℕ → List ℕ → List ℕ → List ℕ
+xorFrom k [] ws = ws
+xorFrom k (b ∷ bs) ws = xorFrom (suc k) bs (xorAt k b ws)
+
+-- the number that bytes make, the first on top
+unfoldable pub fromBytes : List ℕ → ℕ
+fromBytes [] = 0
+fromBytes (b ∷ bs) = b * 2 ^ (8 * length bs) + fromBytes bs
+
+-- the n lowest bytes of a number, the highest first
+unfoldable pub toBytes : ℕ → ℕ → List ℕ
+toBytes zero x = []
+toBytes (suc n) x = x / 2 ^ (8 * n) % 256 ∷ toBytes n x
