@@ -2,15 +2,15 @@
 // Every function is total: a word past the end reads 0 and is not written.
 ghost use mathlib.Core.Path.{_≡_};
 ghost use mathlib.Core.Bool.{_&&_};
-ghost use Prim.Native.Nat.{_+_, _*_, _%_, _^_, _≤_, _<_, min};
+ghost use Prim.Native.Nat.{_+_, _-_, _/_, _%_, _^_, _≤_, _<_, min};
 ghost use lib.ListN.{length, getD, take, drop};
 ghost use lib.Dec.{eqb, leb};
 ghost use lib.Seq.{sets};
-ghost use Rattle.word.specs.Bytes.{byteAt, bytesFrom, xorWord, xorAt, xorFrom, fromBytes, toBytes};
+ghost use Rattle.word.specs.Bytes as spec;
 
 // x xored into word j. A constant index at each store keeps the words in registers.
 pub fn xor_word(words: [u64; 5], j: usize, x: u64) -> [u64; 5]
-    ensures { λ r. ⌜ r ≡ xorWord j x words ⌝ }
+    ensures { λ r. ⌜ r ≡ spec.xorWord j x words ⌝ }
 {
     let a = words[0];
     let b = words[1];
@@ -47,7 +47,7 @@ fn word_of(words: [u64; 5], j: usize) -> u64
 
 // Byte k of the state.
 pub fn byte_at(words: [u64; 5], k: usize) -> u8
-    ensures { λ r. ⌜ r ≡ byteAt words k ⌝ }
+    ensures { λ r. ⌜ r ≡ spec.byteAt words k ⌝ }
 {
     let w = word_of(words, k / 8);
     ((w >> (8 * (7 - k % 8))) % 256) as u8
@@ -55,7 +55,7 @@ pub fn byte_at(words: [u64; 5], k: usize) -> u8
 
 // b xored into byte k of the state.
 pub fn xor_byte(words: [u64; 5], k: usize, b: u8) -> [u64; 5]
-    ensures { λ r. ⌜ r ≡ xorAt k b words ⌝ }
+    ensures { λ r. ⌜ r ≡ spec.xorAt k b words ⌝ }
 {
     xor_word(words, k / 8, (b as u64) << (8 * (7 - k % 8)))
 }
@@ -70,6 +70,16 @@ pub fn shorter(a: usize, b: usize) -> usize
     b
 }
 
+// By how much a is the longer; 0 where it is not.
+fn excess(a: usize, b: usize) -> usize
+    ensures { λ r. ⌜ r ≡ a - b ⌝ }
+{
+    if b < a {
+        return a - b;
+    }
+    0
+}
+
 fn wide(b: u8) -> u64
     ensures { λ r. ⌜ r ≡ b ⌝ }
 {
@@ -79,7 +89,7 @@ fn wide(b: u8) -> u64
 // The number that the eight bytes from i on make, the first on top.
 fn word_at(bytes: &[u8], i: usize) -> u64
     requires { ⌜ i + 8 ≤ length (now bytes) ⌝ }
-    ensures { λ r. ⌜ r ≡ fromBytes (take 8 (drop i (now (bytes .entry)))) ⌝ }
+    ensures { λ r. ⌜ r ≡ spec.fromBytes (take 8 (drop i (now (bytes .entry)))) ⌝ }
 {
     wide(bytes[i]) << 56
         | (wide(bytes[i + 1]) << 48
@@ -93,7 +103,7 @@ fn word_at(bytes: &[u8], i: usize) -> u64
 // The eight bytes of x go to out from i on.
 fn put_word(out: &mut [u8], i: usize, x: u64)
     requires { ⌜ i + 8 ≤ length (now out) ⌝ }
-    ensures { λ _. ⌜ now (out .exit) ≡ sets (now (out .entry)) i (toBytes 8 x) ⌝ }
+    ensures { λ _. ⌜ now (out .exit) ≡ sets (now (out .entry)) i (spec.toBytes 8 x) ⌝ }
 {
     out[i] = (x / 0x0100_0000_0000_0000 % 256) as u8;
     out[i + 1] = (x / 0x0001_0000_0000_0000 % 256) as u8;
@@ -105,46 +115,55 @@ fn put_word(out: &mut [u8], i: usize, x: u64)
     out[i + 7] = (x % 256) as u8;
 }
 
-// Bytes xored in from byte k on, one at a time.
-fn xor_each(words: [u64; 5], k: usize, bytes: &[u8]) -> [u64; 5]
-    requires { ⌜ k + length (now bytes) < 2 ^ 64 ⌝ }
-    ensures { λ r. ⌜ r ≡ xorFrom k (now (bytes .entry)) words ⌝ }
+// The number that bytes make in word j, if the first of them stands at byte k: at once where all eight bytes of the word are there.
+fn window(k: usize, bytes: &[u8], j: usize) -> u64
+    requires { ⌜ (k < 2 ^ 32) × (j < 5) ⌝ }
+    ensures { λ r. ⌜ r ≡ spec.window k (now (bytes .entry)) j ⌝ }
 {
-    let mut out = words;
-    let mut i = 0;
-    while i < bytes.len() {
-        let next = xor_byte(out, k + i, bytes[i]);
-        out = next;
+    let start = 8 * j;
+    let end = start + 8;
+    let last = k + bytes.len();
+    if end <= k {
+        return 0;
+    }
+    if last <= start {
+        return 0;
+    }
+    if end <= last {
+        if k <= start {
+            return word_at(bytes, start - k);
+        }
+    }
+    window_part(k, bytes, start)
+}
+
+// The same for a word that begins at byte start and has some of the bytes, one byte at a time.
+fn window_part(k: usize, bytes: &[u8], start: usize) -> u64
+    requires { ⌜ (k < 2 ^ 32) × (start < 40) × (start % 8 ≡ 0) × (k < start + 8) × (start < k + length (now bytes)) ⌝ }
+    ensures { λ r. ⌜ r ≡ spec.window k (now (bytes .entry)) (start / 8) ⌝ }
+{
+    let end = shorter(start + 8 - k, bytes.len());
+    let mut i = excess(start, k);
+    let mut x = 0;
+    while i < end {
+        x = x ^ (wide(bytes[i]) << (8 * (7 - (k + i) % 8)));
         i += 1;
     }
-    out
+    x
 }
 
-// Whole words of bytes xored in from word j on.
-fn xor_words(words: [u64; 5], j: usize, bytes: &[u8]) -> [u64; 5]
-    requires { ⌜ (length (now bytes) % 8 ≡ 0) × (8 * j + length (now bytes) < 2 ^ 64) ⌝ }
-    ensures { λ r. ⌜ r ≡ xorFrom (8 * j) (now (bytes .entry)) words ⌝ }
-{
-    let mut out = words;
-    let mut i = 0;
-    while i < bytes.len() {
-        let next = xor_word(out, j + i / 8, word_at(bytes, i));
-        out = next;
-        i += 8;
-    }
-    out
-}
-
-// Bytes xored in from a place on.
+// Bytes xored in from a place on, word by word.
 pub fn xor_bytes(words: [u64; 5], place: u32, bytes: &[u8]) -> [u64; 5]
-    ensures { λ r. ⌜ r ≡ xorFrom place (now (bytes .entry)) words ⌝ }
+    ensures { λ r. ⌜ r ≡ spec.xorFrom place (now (bytes .entry)) words ⌝ }
 {
     let k = place as usize;
-    let head = shorter((8 - k % 8) % 8, bytes.len());
-    let middle = head + (bytes.len() - head) / 8 * 8;
-    let first = xor_each(words, k, &bytes[..head]);
-    let most = xor_words(first, (k + head) / 8, &bytes[head..middle]);
-    xor_each(most, k + middle, &bytes[middle..])
+    [
+        words[0] ^ window(k, bytes, 0),
+        words[1] ^ window(k, bytes, 1),
+        words[2] ^ window(k, bytes, 2),
+        words[3] ^ window(k, bytes, 3),
+        words[4] ^ window(k, bytes, 4),
+    ]
 }
 
 // Whether byte k begins a word of which all eight bytes are asked for.
@@ -159,7 +178,7 @@ fn whole_word(k: usize, left: usize) -> bool
 
 // The bytes from a place on go to out, as many as it holds.
 pub fn copy_bytes(words: [u64; 5], place: u32, out: &mut [u8])
-    ensures { λ _. ⌜ now (out .exit) ≡ bytesFrom place (length (now (out .entry))) words ⌝ }
+    ensures { λ _. ⌜ now (out .exit) ≡ spec.bytesFrom place (length (now (out .entry))) words ⌝ }
 {
     let k = place as usize;
     let mut i = 0;

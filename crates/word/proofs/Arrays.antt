@@ -2,7 +2,7 @@
 -- Assumes nothing.
 use mathlib.Core.List.{List, [], _∷_}
 use mathlib.Core.Path.{_≡_, refl, ap, ap₂}
-use Prim.Native.Nat.{ℕ, zero, suc, _^_}
+use Prim.Native.Nat.{ℕ, zero, suc, _^_, _<_}
 use native.Mathlib.Omega.{arith}
 use lib.ListN.{length, getD}
 use mir.Syntax.{Width}
@@ -30,6 +30,11 @@ module _ (w : Width) (n : ℕ) (xs : List ℕ) (vs : List Val) (is : Is (Array (
 abbrev pub listed : ℕ → (ℕ → ℕ) → List ℕ
 listed zero f = []
 listed (suc n) f = f 0 ∷ listed n (λ i. f (suc i))
+
+-- functions that agree have the same values
+pub listed-same : (n : ℕ) (f g : ℕ → ℕ) → ((i : ℕ) → i < n → f i ≡ g i) → listed n f ≡ listed n g
+listed-same zero f g h = refl
+listed-same (suc n) f g h = ap₂ {C = List ℕ} (λ (x : ℕ) (l : List ℕ). x ∷ l) (h 0 (omega arith)) (listed-same n (λ i. f (suc i)) (λ i. g (suc i)) (λ i l. h (suc i) (omega arith)))
 
 -- a list of n numbers, written out: at a numeral n the right side computes
 pub written-out : (n : ℕ) (xs : List ℕ) → length xs ≡ n → xs ≡ listed n (λ i. getD xs i 0)

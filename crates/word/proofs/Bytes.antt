@@ -2,17 +2,20 @@
 -- that are left in the word, so that no index has a case of its own.
 -- Assumes nothing.
 use mathlib.Core.Path.{_≡_, refl, sym, ap, ap₂, _∙_, subst}
+use mathlib.Core.Bool.{true}
 use mathlib.Core.List.{List, [], _∷_, _++_}
 use Prim.Native.Nat.{ℕ, zero, suc, _+_, _-_, _*_, _/_, _%_, _^_, _≤_, _<_}
 use native.Mathlib.Nat.{mod-lt, add-suc, add-zero, zero-add, suc-add, zero-mul, zero-lt-suc, not-suc-le-zero, le-of-suc-le-suc}
 use native.Mathlib.Numerals.{add-one}
 use native.Mathlib.Omega.{arith}
+use borrow.Author.Tests.{eq-eqb}
 use lib.Arith.{bin-ind, digits-lt}
 use lib.Bits.{bitXor, bitOr, differ, xor-step, xor-shr, xor-mod, xor-shifted, xor-zero-r, or-shifted}
+use lib.Dec.{eqb}
 use lib.Pow.{pow-add, shl-exact}
 use lib.ListN.{length, getD, set, take, drop, replicate, length-drop, take-append-drop}
 use lib.Seq.{set-getD, drop-cons, drop-drop, getD-drop, length-take-le, take-at, ext-getD}
-use Rattle.word.specs.Bytes.{weight, byteAt, bytesFrom, xorWord, xorAt, xorFrom, fromBytes, toBytes}
+use Rattle.word.specs.Bytes.{weight, byteAt, bytesFrom, xorWord, xorAt, xorFrom, window, fromBytes, toBytes}
 
 -- ---- exclusive or
 
@@ -93,31 +96,16 @@ weight-in j i n e =
     let places : 8 * (7 - (8 * j + i) % 8) ≡ 8 * n = omega arith in
     ap (λ (p : ℕ). 2 ^ p) places
 
--- a change at j of a list that was changed at j
-set-again : (l : List ℕ) (j v : ℕ) (f : ℕ → ℕ) → set (set l j v) j (f (getD (set l j v) j 0)) ≡ set l j (f v)
-set-again [] j v f = refl
-set-again (x ∷ l) zero v f = refl
-set-again (x ∷ l) (suc j) v f = ap (λ (t : List ℕ). x ∷ t) (set-again l j v f)
+-- the rest of word j, from its byte i on: the number that its bytes make
+window-rest : (bs : List ℕ) (j i : ℕ) → Bytes bs → i + length bs ≡ 8 → window (8 * j + i) bs j ≡ fromBytes bs
+unfolding window fromBytes
+window-rest [] j i h e = refl
+window-rest (b ∷ bs) j i h e =
+    let here : eqb ((8 * j + i) / 8) j ≡ true = eq-eqb ((8 * j + i) / 8) j (in-word j i (length bs) e) in
+    rw (here, weight-in j i (length bs) e, ← add-suc (8 * j) i, window-rest bs j (suc i) (λ n. h (suc n)) (omega (arith, e)))
+    (xor-shifted b (8 * length bs) (fromBytes bs) (fromBytes-lt bs (λ n. h (suc n))))
 
--- the rest of word j, from its byte i on, is xored in as the number that its bytes make
-xor-rest : (bs ws : List ℕ) (j i : ℕ) → Bytes bs → i + length bs ≡ 8 → xorFrom (8 * j + i) bs ws ≡ xorWord j (fromBytes bs) ws
-unfolding xorFrom xorAt xorWord fromBytes
-xor-rest [] ws j i h e = sym (ap (set ws j) (xor-zero-r (getD ws j 0)) ∙ set-getD ws j 0)
-xor-rest (b ∷ bs) ws j i h e =
-    let v : ℕ = bitXor (getD ws j 0) (b * 2 ^ (8 * length bs)) in
-    ap₂ (λ (t : List ℕ) (k : ℕ). xorFrom k bs t)
-    (ap₂ (λ (q s : ℕ). set ws q (bitXor (getD ws q 0) (b * s))) (in-word j i (length bs) e) (weight-in j i (length bs) e))
-    (sym (add-suc (8 * j) i))
-    ∙ xor-rest bs (set ws j v) j (suc i) (λ n. h (suc n)) (omega (arith, e))
-    ∙ set-again ws j v (λ (x : ℕ). bitXor x (fromBytes bs))
-    ∙ ap (set ws j) (xor-assoc (getD ws j 0) (b * 2 ^ (8 * length bs)) (fromBytes bs)
-    ∙ ap (bitXor (getD ws j 0)) (xor-shifted b (8 * length bs) (fromBytes bs) (fromBytes-lt bs (λ n. h (suc n)))))
-
--- a whole word of bytes
-pub xorFrom-word : (bs ws : List ℕ) (j : ℕ) → Bytes bs → length bs ≡ 8 → xorFrom (8 * j) bs ws ≡ xorWord j (fromBytes bs) ws
-xorFrom-word bs ws j h e = ap (λ (k : ℕ). xorFrom k bs ws) (sym (add-zero (8 * j))) ∙ xor-rest bs ws j 0 h (zero-add (length bs) ∙ e)
-
--- the rest of word j, from its byte i on, is read as the lowest bytes of the word
+-- and read: the lowest bytes of the word
 read-rest : (n : ℕ) (ws : List ℕ) (j i : ℕ) → i + n ≡ 8 → bytesFrom (8 * j + i) n ws ≡ toBytes n (getD ws j 0)
 unfolding bytesFrom byteAt toBytes
 read-rest zero ws j i e = refl
@@ -125,6 +113,9 @@ read-rest (suc n) ws j i e =
     ap₂ (λ (b : ℕ) (t : List ℕ). b ∷ t)
     (ap₂ (λ (q s : ℕ). getD ws q 0 / s % 256) (in-word j i n e) (weight-in j i n e))
     (ap (λ (k : ℕ). bytesFrom k n ws) (sym (add-suc (8 * j) i)) ∙ read-rest n ws j (suc i) (omega (arith, e)))
+
+pub window-word : (bs : List ℕ) (j : ℕ) → Bytes bs → length bs ≡ 8 → window (8 * j) bs j ≡ fromBytes bs
+window-word bs j h e = ap (λ (k : ℕ). window k bs j) (sym (add-zero (8 * j))) ∙ window-rest bs j 0 h (zero-add (length bs) ∙ e)
 
 pub bytesFrom-word : (ws : List ℕ) (j : ℕ) → bytesFrom (8 * j) 8 ws ≡ toBytes 8 (getD ws j 0)
 bytesFrom-word ws j = ap (λ (k : ℕ). bytesFrom k 8 ws) (sym (add-zero (8 * j))) ∙ read-rest 8 ws j 0 refl
@@ -145,29 +136,6 @@ pub xorFrom-zeros : (n k : ℕ) (ws : List ℕ) → xorFrom k (replicate n 0) ws
 unfolding xorFrom
 xorFrom-zeros zero k ws = refl
 xorFrom-zeros (suc n) k ws = xorFrom-zeros n (suc k) (xorAt k 0 ws) ∙ xorAt-by-zero k ws
-
--- the first h bytes of a list, and then the others
-pub xorFrom-split : (bs ws : List ℕ) (k h : ℕ) → h ≤ length bs → xorFrom (k + h) (drop h bs) (xorFrom k (take h bs) ws) ≡ xorFrom k bs ws
-xorFrom-split bs ws k h l =
-    ap (λ (n : ℕ). xorFrom (k + n) (drop h bs) (xorFrom k (take h bs) ws)) (sym (length-take-le h bs l))
-    ∙ sym (xorFrom-append (take h bs) (drop h bs) k ws) ∙ ap (λ (t : List ℕ). xorFrom k t ws) (take-append-drop h bs)
-
--- the next byte of a list, and then what is left of it
-pub xorFrom-next : (bs ws : List ℕ) (k i : ℕ) → i < length bs → xorFrom (k + (i + 1)) (drop (i + 1) bs) (xorAt (k + i) (getD bs i 0) ws) ≡ xorFrom (k + i) (drop i bs) ws
-unfolding xorFrom
-xorFrom-next bs ws k i h =
-    let place : k + (i + 1) ≡ suc (k + i) = omega arith in
-    rw (drop-cons bs i 0 h, place, add-one)
-
--- the next word of a list, and then what is left of it
-pub xorFrom-next-word : (bs ws : List ℕ) (j i : ℕ) → Bytes bs → i + 8 ≤ length bs → i % 8 ≡ 0
-    → xorFrom (8 * j + (i + 8)) (drop (i + 8) bs) (xorWord (j + i / 8) (fromBytes (take 8 (drop i bs))) ws) ≡ xorFrom (8 * j + i) (drop i bs) ws
-xorFrom-next-word bs ws j i h l e =
-    let eight : length (take 8 (drop i bs)) ≡ 8 = length-take-le 8 (drop i bs) (omega (arith, length-drop i bs)) in
-    let place : 8 * (j + i / 8) ≡ 8 * j + i = omega arith in
-    let next : 8 * j + (i + 8) ≡ 8 * j + i + length (take 8 (drop i bs)) = omega arith in
-    rw (next, ← drop-drop 8 i bs, ← xorFrom-word (take 8 (drop i bs)) ws (j + i / 8) (part-bytes 8 i bs h) eight, place)
-    (sym (ap (λ (t : List ℕ). xorFrom (8 * j + i) t ws) (sym (take-append-drop 8 (drop i bs))) ∙ xorFrom-append (take 8 (drop i bs)) (drop 8 (drop i bs)) (8 * j + i) ws))
 
 -- ---- runs of bytes
 

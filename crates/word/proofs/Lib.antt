@@ -2,5 +2,6 @@ pub mod Bits
 pub mod Rotation
 pub mod Circuit
 pub mod Arrays
-pub mod Bytes
 pub mod Lists
+pub mod Bytes
+pub mod Windows

@@ -1,8 +1,10 @@
 -- Bytes of 64-bit words, the highest byte of a word first: byte k of some words is byte k % 8, from the top, of word k / 8.
 -- A word past the end reads 0, and is not written. proofs/Bytes.antt has the law that tells `xorAt` byte by byte, `xored-byte`.
 -- Assumes nothing.
+use mathlib.Core.Bool.{cond}
 use mathlib.Core.List.{List, [], _∷_}
 use Prim.Native.Nat.{ℕ, zero, suc, _+_, _-_, _*_, _/_, _%_, _^_}
+use lib.Dec.{eqb}
 use lib.ListN.{length, getD, set}
 use lib.Bits.{bitXor}
 
@@ -31,6 +33,11 @@ xorAt k b ws = xorWord (k / 8) (b * weight k) ws
 unfoldable pub xorFrom : ℕ → List ℕ → List ℕ → List ℕ
 xorFrom k [] ws = ws
 xorFrom k (b ∷ bs) ws = xorFrom (suc k) bs (xorAt k b ws)
+
+-- the number that bytes make in word j, if the first of them stands at byte k
+unfoldable pub window : ℕ → List ℕ → ℕ → ℕ
+window k [] j = 0
+window k (b ∷ bs) j = bitXor (cond (eqb (k / 8) j) (b * weight k) 0) (window (suc k) bs j)
 
 -- the number that bytes make, the first on top
 unfoldable pub fromBytes : List ℕ → ℕ

@@ -1,103 +1,62 @@
--- `state::xor_bytes` meets its contract: the bytes up to the first whole word, the whole words, and the bytes after them.
+-- `state::xor_bytes` meets its contract: each of the five words is xored with the number that the bytes make in it.
 -- Assumes nothing.
-use mathlib.Core.Path.{_≡_, sym, ap, _∙_}
-use mathlib.Core.List.{List, [], _∷_}
-use Prim.Native.Nat.{ℕ, _+_, _*_, _-_, _/_, _%_, _≤_}
-use native.Mathlib.Decide.{ℕ-discrete}
-use native.Mathlib.Omega.{arith}
-use denote.Ref.{now}
-use lib.ListN.{length, take, drop}
-use lib.Seq.{length-take-le}
-use Rattle.word.specs.Bytes.{xorFrom}
-use Rattle.state.proofs.Parts.{three-parts}
+use mathlib.Core.Path.{_≡_, sym}
+use lib.ListN.{length}
+use Rattle.word.proofs.Windows.{xorFrom-words}
 use borrow.Author.Needs.{needs}
 use Rattle.state.proofs.xor_bytes.Statement.{statement}
 use Rattle.state.proofs.xor_bytes.Tie as tie
 
-sub-shorter : tie.Need-sub-shorter
-sub-shorter c = search needs
+five : (c : tie.Start) → length (c .args .t1) ≡ 5
+five c = search needs
 
-shorter-requires : tie.Need-shorter-requires
-shorter-requires c κs = search needs
+array-read-t8 : tie.Need-array-read-t8
+array-read-t8 c = search needs
 
-sub-middle : tie.Need-sub-middle
-sub-middle c = search needs
+window-requires : tie.Need-window-requires
+window-requires c κs = search needs
 
-mul-middle : tie.Need-mul-middle
-mul-middle c = search needs
+array-read-t13 : tie.Need-array-read-t13
+array-read-t13 c = search needs
 
-add-middle : tie.Need-add-middle
-add-middle c = search needs
+window-requires-2 : tie.Need-window-requires-2
+window-requires-2 c κs = search needs
 
-slice-aggregate-xor-each : tie.Need-slice-aggregate-xor-each
-slice-aggregate-xor-each c = sym (length-take-le _ _ (omega (arith, c .before .shorter .ensures)))
+array-read-t18 : tie.Need-array-read-t18
+array-read-t18 c = search needs
 
-xor-each-requires : tie.Need-xor-each-requires
-xor-each-requires c κs =
-    let a = c .before .before .before .args in
-    rw (length-take-le (c .before .shorter .result) (now (a .bytes)) (omega (arith, c .before .shorter .ensures))) (omega arith)
+window-requires-3 : tie.Need-window-requires-3
+window-requires-3 c κs = search needs
 
-add-xor-words : tie.Need-add-xor-words
-add-xor-words c = search needs
+array-read-t23 : tie.Need-array-read-t23
+array-read-t23 c = search needs
 
-sub-xor-words : tie.Need-sub-xor-words
-sub-xor-words c = search needs
+window-requires-4 : tie.Need-window-requires-4
+window-requires-4 c κs = search needs
 
-part-xor-words-start : tie.Need-part-xor-words-start
-part-xor-words-start c = search needs
+array-read-t28 : tie.Need-array-read-t28
+array-read-t28 c = search needs
 
-part-xor-words-end : tie.Need-part-xor-words-end
-part-xor-words-end c = search needs
-
-xor-words-requires : tie.Need-xor-words-requires
-xor-words-requires c κs = search needs
-
-add-xor-each : tie.Need-add-xor-each
-add-xor-each c = search needs
-
-sub-xor-each : tie.Need-sub-xor-each
-sub-xor-each c = search needs
-
-part-xor-each-start : tie.Need-part-xor-each-start
-part-xor-each-start c = search needs
-
-part-xor-each-end : tie.Need-part-xor-each-end
-part-xor-each-end c = search needs
-
-xor-each-requires-2 : tie.Need-xor-each-requires-2
-xor-each-requires-2 c κs = search needs
+window-requires-5 : tie.Need-window-requires-5
+window-requires-5 c κs = search needs
 
 returns : tie.Need-returns
 returns c =
-    let most = c .before .before in
-    let first = most .before .before in
-    let split = first .before .before in
-    let a = split .before .before .args in
-    let h = split .shorter .result in
-    let m : ℕ = h + (length (now (a .bytes)) - h) / 8 * 8 in
-    let least = split .shorter .ensures in
-    rw (c .xor-each2 .ensures, most .xor-words .ensures, first .xor-each .ensures)
-    (three-parts (now (a .bytes)) (a .words) (a .place) h m (omega arith) (omega arith) (λ d. omega arith))
+    let a = c .before .before .before .before .before .before .args in
+    rw (c .window5 .ensures, c .before .window4 .ensures, c .before .before .window3 .ensures, c .before .before .before .window2 .ensures, c .before .before .before .before .window .ensures) (sym (xorFrom-words 5 (a .bytes .now) (a .t1) (a .place) (five (c .before .before .before .before .before .before))))
 
 pub xor-bytes-spec : {M : Type 1} → statement M
 xor-bytes-spec =
     tie.close
     (tie.spec
-    sub-shorter
-    shorter-requires
-    sub-middle
-    mul-middle
-    add-middle
-    slice-aggregate-xor-each
-    xor-each-requires
-    add-xor-words
-    sub-xor-words
-    part-xor-words-start
-    part-xor-words-end
-    xor-words-requires
-    add-xor-each
-    sub-xor-each
-    part-xor-each-start
-    part-xor-each-end
-    xor-each-requires-2
+    array-read-t8
+    window-requires
+    array-read-t13
+    window-requires-2
+    array-read-t18
+    window-requires-3
+    array-read-t23
+    window-requires-4
+    array-read-t28
+    window-requires-5
     returns)

@@ -1,0 +1,124 @@
+-- Bytes xored into words, word by word: word j is xored with the number that the bytes make in it, its window.
+-- Assumes nothing.
+use mathlib.Core.Bool.{Bool, true, false, cond}
+use mathlib.Core.Path.{_≡_, refl, sym, ap, ap₂, _∙_}
+use mathlib.Core.List.{List, [], _∷_, _++_}
+use Prim.Native.Nat.{ℕ, zero, suc, _+_, _-_, _*_, _/_, _≤_, _<_}
+use native.Mathlib.Decide.{decLt, ℕ-discrete}
+use native.Mathlib.Nat.{add-zero, add-suc, suc-add}
+use native.Mathlib.Omega.{arith}
+use borrow.Author.Tests.{eq-eqb, ne-eqb}
+use lib.Bits.{bitXor, xor-zero-r}
+use lib.Dec.{eqb}
+use lib.ListN.{length, getD, set, take, drop, drop-of-length-le, length-set, length-drop, take-append-drop}
+use lib.Seq.{getD-set-same, getD-set-other, ext-getD, drop-cons, drop-drop, length-take-le}
+use Rattle.word.specs.Bytes.{weight, xorWord, xorAt, xorFrom, window, fromBytes}
+use Rattle.word.proofs.Arrays.{listed, listed-same, written-out}
+use Rattle.word.proofs.Bytes.{xor-assoc, Bytes, part-bytes, window-word}
+
+-- ---- windows
+
+-- a byte that stands in no byte of word j
+window-other : (k b j : ℕ) (bs : List ℕ) → (k / 8 ≡ j → ⊥) → window k (b ∷ bs) j ≡ window (suc k) bs j
+unfolding window
+window-other k b j bs ne = rw (ne-eqb (k / 8) j ne)
+
+-- bytes that stand after word j, or before it
+pub window-past : (bs : List ℕ) (k j : ℕ) → 8 * j + 8 ≤ k → window k bs j ≡ 0
+unfolding window
+window-past [] k j h = refl
+window-past (b ∷ bs) k j h = window-other k b j bs (λ e. omega arith) ∙ window-past bs (suc k) j (omega arith)
+
+pub window-before : (bs : List ℕ) (k j : ℕ) → k + length bs ≤ 8 * j → window k bs j ≡ 0
+unfolding window
+window-before [] k j h = refl
+window-before (b ∷ bs) k j h = window-other k b j bs (λ e. omega arith) ∙ window-before bs (suc k) j (omega arith)
+
+window-append : (a b : List ℕ) (k j : ℕ) → window k (a ++ b) j ≡ bitXor (window k a j) (window (k + length a) b j)
+unfolding window
+window-append [] b k j = rw add-zero refl
+window-append (x ∷ a) b k j =
+    ap (bitXor (cond (eqb (k / 8) j) (x * weight k) 0)) (window-append a b (suc k) j ∙ rw (suc-add, add-suc))
+    ∙ sym (xor-assoc (cond (eqb (k / 8) j) (x * weight k) 0) (window (suc k) a j) (window (k + suc (length a)) b j))
+
+-- the first n bytes, and the others
+window-split : (bs : List ℕ) (n k j : ℕ) → n ≤ length bs → window k bs j ≡ bitXor (window k (take n bs) j) (window (k + n) (drop n bs) j)
+window-split bs n k j h =
+    ap (λ (l : List ℕ). window k l j) (sym (take-append-drop n bs)) ∙ window-append (take n bs) (drop n bs) k j
+    ∙ ap (λ (m : ℕ). bitXor (window k (take n bs) j) (window (k + m) (drop n bs) j)) (length-take-le n bs h)
+
+-- the first n bytes stand before word j
+window-skip : (bs : List ℕ) (n k j : ℕ) → n ≤ length bs → k + n ≤ 8 * j → window k bs j ≡ window (k + n) (drop n bs) j
+window-skip bs n k j h l =
+    let none : window k (take n bs) j ≡ 0 = window-before (take n bs) k j (omega (arith, length-take-le n bs h)) in
+    window-split bs n k j h ∙ ap (λ (x : ℕ). bitXor x (window (k + n) (drop n bs) j)) none
+
+-- what stands before word j is left out
+pub window-from : (bs : List ℕ) (n k j : ℕ) → n ≤ length bs → n ≡ 8 * j - k → window (k + n) (drop n bs) j ≡ window k bs j
+window-from bs zero k j h e = rw add-zero
+window-from bs (suc n) k j h e = sym (window-skip bs (suc n) k j h (omega arith))
+
+-- nothing of word j is left
+pub window-done : (bs : List ℕ) (k i j : ℕ) → (i < length bs → 8 * j + 8 ≤ k + i) → window (k + i) (drop i bs) j ≡ 0
+unfolding window
+window-done bs k i j past = go (decLt i (length bs))
+  where
+    go : Dec (i < length bs) → window (k + i) (drop i bs) j ≡ 0
+    go (yes l) = window-past (drop i bs) (k + i) j (past l)
+    go (no l) =
+        let all : length bs ≤ i = omega arith in
+        rw (drop-of-length-le bs all)
+
+-- the next byte, which stands in word j, and then what is left
+pub window-next : (bs : List ℕ) (k i j : ℕ) → i < length bs → (k + i) / 8 ≡ j
+    → window (k + i) (drop i bs) j ≡ bitXor (getD bs i 0 * weight (k + i)) (window (k + (i + 1)) (drop (i + 1) bs) j)
+unfolding window
+window-next bs k i j h e =
+    let next : k + (i + 1) ≡ suc (k + i) = omega arith in
+    let one : i + 1 ≡ suc i = omega arith in
+    rw (drop-cons bs i 0 h, next, one, eq-eqb ((k + i) / 8) j e)
+
+-- all eight bytes of word j are there
+pub window-all : (bs : List ℕ) (k j : ℕ) → Bytes bs → k ≤ 8 * j → 8 * j + 8 ≤ k + length bs → window k bs j ≡ fromBytes (take 8 (drop (8 * j - k) bs))
+window-all bs k j bytes before after =
+    let n : ℕ = 8 * j - k in
+    let start : k + n ≡ 8 * j = omega arith in
+    let eight : length (take 8 (drop n bs)) ≡ 8 = length-take-le 8 (drop n bs) (omega (arith, length-drop n bs)) in
+    window-skip bs n k j (omega arith) (omega arith)
+    ∙ ap (λ (m : ℕ). window m (drop n bs) j) start
+    ∙ window-split (drop n bs) 8 (8 * j) j (omega (arith, length-drop n bs))
+    ∙ ap₂ bitXor (window-word (take 8 (drop n bs)) j (part-bytes 8 n bs bytes) eight) (window-past (drop 8 (drop n bs)) (8 * j + 8) j (omega arith))
+    ∙ xor-zero-r (fromBytes (take 8 (drop n bs)))
+
+-- ---- words
+
+length-xorFrom : (bs ws : List ℕ) (k : ℕ) → length (xorFrom k bs ws) ≡ length ws
+unfolding xorFrom xorAt xorWord
+length-xorFrom [] ws k = refl
+length-xorFrom (b ∷ bs) ws k = length-xorFrom bs (xorAt k b ws) (suc k) ∙ length-set ws (k / 8) _
+
+-- word j after a byte is xored in
+word-xorAt : (k b j : ℕ) (ws : List ℕ) → j < length ws → getD (xorAt k b ws) j 0 ≡ bitXor (getD ws j 0) (cond (eqb (k / 8) j) (b * weight k) 0)
+unfolding xorAt xorWord
+word-xorAt k b j ws h = go (ℕ-discrete (k / 8) j)
+  where
+    go : Dec (k / 8 ≡ j) → getD (set ws (k / 8) (bitXor (getD ws (k / 8) 0) (b * weight k))) j 0 ≡ bitXor (getD ws j 0) (cond (eqb (k / 8) j) (b * weight k) 0)
+    go (yes e) = rw (eq-eqb (k / 8) j e, e) (getD-set-same ws j (bitXor (getD ws j 0) (b * weight k)) 0 h)
+    go (no d) = rw (ne-eqb (k / 8) j d, xor-zero-r) (getD-set-other ws (k / 8) j _ 0 (λ e. d (sym e)))
+
+-- word j after bytes are xored in
+pub word-xorFrom : (bs ws : List ℕ) (k j : ℕ) → j < length ws → getD (xorFrom k bs ws) j 0 ≡ bitXor (getD ws j 0) (window k bs j)
+unfolding xorFrom window
+word-xorFrom [] ws k j h = sym (xor-zero-r (getD ws j 0))
+word-xorFrom (b ∷ bs) ws k j h =
+    word-xorFrom bs (xorAt k b ws) (suc k) j (rw (same-length) h)
+    ∙ ap (λ (x : ℕ). bitXor x (window (suc k) bs j)) (word-xorAt k b j ws h)
+    ∙ xor-assoc (getD ws j 0) (cond (eqb (k / 8) j) (b * weight k) 0) (window (suc k) bs j)
+  where
+    same-length : length (xorAt k b ws) ≡ length ws
+    same-length = length-xorFrom (b ∷ []) ws k
+
+-- n words after bytes are xored in, written out
+pub xorFrom-words : (n : ℕ) (bs ws : List ℕ) (k : ℕ) → length ws ≡ n → xorFrom k bs ws ≡ listed n (λ j. bitXor (getD ws j 0) (window k bs j))
+xorFrom-words n bs ws k e =
+    written-out n (xorFrom k bs ws) (length-xorFrom bs ws k ∙ e) ∙ listed-same n (λ j. getD (xorFrom k bs ws) j 0) (λ j. bitXor (getD ws j 0) (window k bs j)) (λ j l. word-xorFrom bs ws k j (rw e l))
