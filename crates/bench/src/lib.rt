@@ -1,9 +1,16 @@
-// The permutation as C calls it: for the test bench of document 01, the benchmarks under bench/ and the tests under tests/.
+// The permutation and the sponge as C calls them: for the test bench of document 01, the benchmarks under bench/ and the tests under tests/.
+use sponge::Mode;
+use sponge::Named;
+use sponge::Record;
 ghost use mathlib.Core.Path.{_≡_};
 ghost use mathlib.Core.List.{[], _∷_};
+ghost use lib.ListN.{length};
 ghost use Rattle.permutation.specs.Permutation.{at, run};
 ghost use Rattle.permutation.specs.Row.{rowAnswer, rowAfter};
+ghost use Rattle.sponge.specs.Mode.{named};
 ghost use Rattle.bench.specs.Chain.{repeated};
+ghost use Rattle.sponge.specs.Streaming.{absorbedParts, nextParts, squeezedParts};
+ghost use Rattle.bench.specs.Sponge.{partsAt, countsAt, spongeRuns, spongeOut, tagAnswer};
 
 // One permutation of a lent row: 0, or 7 for a row that is not of five words, which stays as it is.
 #[no_mangle]
@@ -25,4 +32,61 @@ pub extern "C" fn bench_permute_chain(x0: u64, times: u64) -> u64
         s = t;
     }
     s[0]
+}
+
+// A message is fed in two parts. A cut past its end is one at its end.
+fn absorb_in_two(s: Record, message: &[u8], cut: usize) -> Record
+    ensures { λ r. ⌜ r ≡ absorbedParts (partsAt cut (now (message .entry))) s ⌝ }
+{
+    let middle = state::shorter(cut, message.len());
+    let begun = s.absorb(&message[..middle]);
+    begun.absorb(&message[middle..])
+}
+
+// Output is drawn in two parts, the first of so many bytes, or of all.
+fn squeeze_in_two(s: Record, out: &mut [u8], first: usize) -> Record
+    ensures after { λ r. ⌜ r ≡ squeezedParts (countsAt first (length (now (out .entry)))) s ⌝ }
+    ensures written { λ r. ⌜ now (out .exit) ≡ nextParts (countsAt first (length (now (out .entry)))) s ⌝ }
+{
+    let middle = state::shorter(first, out.len());
+    let begun = s.squeeze(&mut out[..middle]);
+    begun.squeeze(&mut out[middle..])
+}
+
+// The output of a mode for a message, as much as is lent; the answer is how many runs were made. The message is fed and the output drawn in two parts.
+// A number that is no mode is answered 0, and nothing is written.
+#[no_mangle]
+pub extern "C" fn bench_sponge(
+    key: &[u8],
+    message: &[u8],
+    out: &mut [u8],
+    mode: u32,
+    cut: usize,
+    first: usize,
+) -> u64
+    ensures answer { λ r. ⌜ r ≡ spongeRuns (named mode) (length (now (message .entry))) (length (now (out .entry))) ⌝ }
+    ensures after { λ r. ⌜ now (out .exit) ≡ spongeOut (named mode) (now (key .entry)) (now (message .entry)) (now (out .entry)) ⌝ }
+{
+    let Named::Is(known) = Mode::of_number(mode) else {
+        return 0;
+    };
+    let fresh = Record::fresh(1, known, key);
+    let fed = absorb_in_two(fresh, message, cut);
+    let ended = fed.finish();
+    let drawn = squeeze_in_two(ended, out, first);
+    drawn.runs()
+}
+
+// Whether a tag is as many first bytes of the MAC of a message: 1, or 0.
+#[no_mangle]
+pub extern "C" fn bench_tag(key: &[u8], message: &[u8], tag: &[u8]) -> u32
+    ensures { λ r. ⌜ r ≡ tagAnswer (now (key .entry)) (now (message .entry)) (now (tag .entry)) ⌝ }
+{
+    let fresh = Record::fresh(1, Mode::Mac, key);
+    let fed = fresh.absorb(message);
+    let ended = fed.finish();
+    if ended.tag_matches(tag) {
+        return 1;
+    }
+    0
 }

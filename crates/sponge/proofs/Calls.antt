@@ -12,7 +12,7 @@ use Rattle.sponge.specs.Mode.{Row, row}
 use Rattle.sponge.specs.Record.{sum64, withFed, withDrawn, withFeeding, feedBytes, endFeeding, drawnBytes, afterDrawing, absorbed, finished, nextBytes, squeezed}
 use Rattle.sponge.proofs.Modes.{rates}
 use Rattle.sponge.proofs.Feeding.{sum64-sum64, sum64-fits, withCoreOf, feedBytes-core, feedBytes-place, feedBytes-append, endFeeding-core, endFeeding-place}
-use Rattle.sponge.proofs.Drawing.{drawnBytes-core, drawnBytes-add, afterDrawing-core, afterDrawing-add}
+use Rattle.sponge.proofs.Drawing.{length-drawnBytes, drawnBytes-core, drawnBytes-add, afterDrawing-core, afterDrawing-add}
 
 -- a length that may have wrapped has the right place
 same-place : (mode : Mode) (a b : ℕ) → sum64 a b % row mode .feedRate ≡ (a + b) % row mode .feedRate
@@ -81,6 +81,11 @@ pub squeezed-is : (k : ℕ) (r : Record)
     → squeezed k r ≡ withCoreOf (afterDrawing (row (r .mode)) (r .drawn) k r) (withDrawn (sum64 (r .drawn) k) r)
 unfolding squeezed
 squeezed-is k r = ap (withDrawn (sum64 (r .drawn) k)) (afterDrawing-core (row (r .mode)) k (r .drawn) r r)
+
+-- as many bytes are drawn as are asked for
+pub length-nextBytes : (k : ℕ) (r : Record) → length (nextBytes k r) ≡ k
+unfolding nextBytes
+length-nextBytes k r = length-drawnBytes (row (r .mode)) k (r .drawn) r
 
 -- the bytes of a later call are those of the steps going on, as long as the count of the bytes drawn does not wrap
 pub nextBytes-is : (a b : ℕ) (r : Record) → r .drawn + a < 2 ^ 64

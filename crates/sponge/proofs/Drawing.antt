@@ -49,6 +49,11 @@ unfolding drawnBytes afterDrawing
 drawnBytes-add w zero b d r = rw (zero-add, add-zero)
 drawnBytes-add w (suc a) b d r = rw (suc-add, drawnBytes-add w a b (suc d) (ready w d r), suc-add, add-suc)
 
+pub length-drawnBytes : (w : Row) (k d : ℕ) (r : Record) → length (drawnBytes w d k r) ≡ k
+unfolding drawnBytes
+length-drawnBytes w zero d r = refl
+length-drawnBytes w (suc k) d r = ap suc (length-drawnBytes w k (suc d) (ready w d r))
+
 -- ---- lists of a function's values
 
 -- n values of f, from f k on

@@ -141,7 +141,7 @@ front-written out ys k p ws h e = omega (arith, length-append ys (drop k out), l
 
 module _ (w : Row) (pos : 0 < w .drawRate) (r : Record) where
   -- bytes of a block that stands in the words of x; p is the place of the first
-  block-drawn : (k d p : ℕ) (x y : Record) → ready w d x ≡ y → d % w .drawRate ≡ p → 0 < k → p + k ≤ w .drawRate
+  pub block-drawn : (k d p : ℕ) (x y : Record) → ready w d x ≡ y → d % w .drawRate ≡ p → 0 < k → p + k ≤ w .drawRate
       → (afterDrawing w d k x ≡ y) × (drawnBytes w d k x ≡ bytesFrom p k (y .words))
   block-drawn zero d p x y e z some h = absurd (let f : ⊥ = omega arith in f)
   block-drawn (suc k) d p x y e z some h =

@@ -6,19 +6,21 @@ use mathlib.Core.Path.{_≡_, refl, sym, ap, _∙_}
 use mathlib.Core.List.{List, [], _∷_}
 use Prim.Native.Nat.{ℕ, _+_, _-_, _/_, _^_, _<_}
 use native.Mathlib.Omega.{arith}
-use native.Mathlib.Nat.{zero-add, zero-div}
+use native.Mathlib.Nat.{zero-add, zero-div, zero-mod, le-refl}
 use lib.ListN.{length, drop}
 use Rattle.sponge.specs.declared.mode.Mode.{Mode}
+use Rattle.sponge.specs.declared.mode.Mode.the-variants.{Prf, Mac, Hash, Xof}
 use Rattle.sponge.specs.declared.record.Record.{Record}
 use Rattle.sponge.specs.Mode.{Row, row}
-use Rattle.sponge.specs.Sponge.{start, absorbMessage, output, oneShot, runsFeeding, runsEnded}
+use Rattle.sponge.specs.Sponge.{ceiling, start, absorbMessage, output, oneShot, runsFeeding, runsEnded}
 use Rattle.sponge.specs.Record.{sum64, withCore, withFed, withDrawn, withFeeding, afterRun, feedBytes, endFeeding, drawnBytes, afterDrawing, fresh, absorbed}
-use Rattle.sponge.specs.Record.{finished, nextBytes, squeezed}
+use Rattle.sponge.specs.Record.{finished, nextBytes, squeezed, block}
 use Rattle.sponge.specs.Streaming.{joined, total, feedParts, drawnParts, afterParts, Streaming, absorbedParts, nextParts, squeezedParts, StreamingCalls}
 use Rattle.sponge.proofs.Feeding.{sum64-lt, sum64-sum64, sum64-fits, sum64-zero, withCoreOf, feedBytes-append, feeding-ended, feeding-counted}
 use Rattle.sponge.proofs.Drawing.{drawnBytes-core, drawnBytes-add, afterDrawing-core, afterDrawing-add, afterRuns, afterRuns-zero, afterDrawing-runs}
 use Rattle.sponge.proofs.Drawing.{drawnBytes-squeezed, blocks-drawn}
 use Rattle.sponge.proofs.Modes.{rates}
+use Rattle.sponge.proofs.Parts.{ready-first, block-drawn}
 use Rattle.sponge.proofs.Calls.{absorbed-append, finished-is, nextBytes-is, nextBytes-add, squeezed-is, squeezed-add}
 
 -- ---- parts, joined, at any row
@@ -134,6 +136,21 @@ module _ (ticket : ℕ) (mode : Mode) (key m : List ℕ) where
       rw zero-add at (nextBytes-add 0 d (finished (absorbed m (fresh ticket mode key))) (rw finished-whole (omega arith)))
       ∙ rw zero-add at (calls-bytes 0 d (omega arith))
 
+  -- the block that is drawn from when feeding has ended is the first of the one-shot output
+  pub calls-block : block (finished (absorbed m (fresh ticket mode key))) ≡ oneShot (row mode) key m (row mode .drawRate)
+  unfolding block nextBytes others fresh afterRun
+  calls-block =
+      ap block finished-whole
+      ∙ sym (block-drawn (row mode) draws x (row mode .drawRate) 0 0 x x (ready-first (row mode) draws 0 x refl) (zero-mod (row mode .drawRate)) draws (rw zero-add (le-refl (row mode .drawRate))) .1)
+      ∙ sym (ap (nextBytes (row mode .drawRate)) finished-whole)
+      ∙ calls-all-bytes (row mode .drawRate)
+    where
+      x : Record
+      x = withCoreOf ended others
+
+      draws : 0 < row mode .drawRate
+      draws = rates mode .draws
+
   -- the runs once feeding has ended
   pub calls-ended-runs : (d : ℕ) → runsEnded (row mode) (start (row mode) key .runs) (length m) d < 2 ^ 64
       → squeezed d (finished (absorbed m (fresh ticket mode key))) .runs ≡ runsEnded (row mode) (start (row mode) key .runs) (length m) d
@@ -143,6 +160,14 @@ module _ (ticket : ℕ) (mode : Mode) (key m : List ℕ) where
       ∙ ap (λ (x : Record). x .runs) (squeezed-is d (withCoreOf ended others))
       ∙ ap (λ (x : Record). x .runs) (afterDrawing-core (row mode) d 0 ended others)
       ∙ steps-ended-runs (row mode) (rates mode .feeds) (rates mode .draws) (fresh ticket mode key) m d fits
+
+-- for lengths of 64 bits the formula never is more than 64 bits
+pub runs-fit : (mode : Mode) (n d : ℕ) → n < 2 ^ 64 → d < 2 ^ 64 → runsEnded (row mode) 1 n d < 2 ^ 64
+unfolding row runsEnded ceiling
+runs-fit Prf n d hn hd = omega arith
+runs-fit Mac n d hn hd = omega arith
+runs-fit Hash n d hn hd = omega arith
+runs-fit Xof n d hn hd = omega arith
 
 -- the theorem, for the calls
 pub streaming-calls : (ticket : ℕ) (mode : Mode) (key : List ℕ) (parts : List (List ℕ)) (counts : List ℕ) → StreamingCalls ticket mode key parts counts
