@@ -2,7 +2,7 @@
 -- Assumes nothing.
 use mathlib.Core.Bool.{Bool, true, false, cond}
 use mathlib.Core.Path.{_≡_, sym, ap, ap₂, _∙_}
-use mathlib.Core.List.{List, _++_}
+use mathlib.Core.List.{List, [], _++_}
 use Prim.Native.Nat.{ℕ, _+_, _%_, _^_, _<_}
 use native.Mathlib.Omega.{arith}
 use lib.ListN.{length, length-append}
@@ -11,7 +11,7 @@ use Rattle.sponge.specs.declared.record.Record.{Record}
 use Rattle.sponge.specs.Mode.{Row, row}
 use Rattle.sponge.specs.Record.{sum64, withFed, withDrawn, withFeeding, feedBytes, endFeeding, drawnBytes, afterDrawing, absorbed, finished, nextBytes, squeezed}
 use Rattle.sponge.proofs.Modes.{rates}
-use Rattle.sponge.proofs.Feeding.{sum64-sum64, sum64-fits, withCoreOf, feedBytes-core, feedBytes-place, feedBytes-append, endFeeding-core, endFeeding-place}
+use Rattle.sponge.proofs.Feeding.{sum64-sum64, sum64-fits, sum64-zero, withCoreOf, feedBytes-core, feedBytes-place, feedBytes-append, endFeeding-core, endFeeding-place}
 use Rattle.sponge.proofs.Drawing.{length-drawnBytes, drawnBytes-core, drawnBytes-add, afterDrawing-core, afterDrawing-add}
 
 -- a length that may have wrapped has the right place
@@ -26,6 +26,11 @@ pub absorbed-is : (bs : List ℕ) (r : Record)
     → absorbed bs r ≡ withCoreOf (feedBytes (row (r .mode)) (r .fed) bs r) (withFed (sum64 (r .fed) (length bs)) r)
 unfolding absorbed
 absorbed-is bs r = ap (withFed (sum64 (r .fed) (length bs))) (feedBytes-core (row (r .mode)) bs (r .fed) r r)
+
+-- no bytes fed
+pub absorbed-none : (r : Record) → r .fed < 2 ^ 64 → absorbed [] r ≡ r
+unfolding absorbed feedBytes
+absorbed-none r h = ap (λ (n : ℕ). withFed n r) (sum64-zero (r .fed) h)
 
 -- bytes fed by two calls
 pub absorbed-append : (a b : List ℕ) (r : Record) → absorbed (a ++ b) r ≡ absorbed b (absorbed a r)

@@ -21,7 +21,7 @@ use Rattle.sponge.proofs.Drawing.{drawnBytes-core, drawnBytes-add, afte
 use Rattle.sponge.proofs.Drawing.{drawnBytes-squeezed, blocks-drawn}
 use Rattle.sponge.proofs.Modes.{rates}
 use Rattle.sponge.proofs.Parts.{ready-first, block-drawn}
-use Rattle.sponge.proofs.Calls.{absorbed-append, finished-is, nextBytes-is, nextBytes-add, squeezed-is, squeezed-add}
+use Rattle.sponge.proofs.Calls.{absorbed-none, absorbed-append, finished-is, nextBytes-is, nextBytes-add, squeezed-is, squeezed-add}
 
 -- ---- parts, joined, at any row
 
@@ -83,8 +83,8 @@ streaming w feeds draws r parts counts = record {
 -- ---- the calls: parts, joined
 
 parts-absorbed : (ms : List (List ℕ)) (r : Record) → r .fed < 2 ^ 64 → absorbedParts ms r ≡ absorbed (joined ms) r
-unfolding absorbedParts absorbed feedBytes
-parts-absorbed [] r h = ap (λ (n : ℕ). withFed n r) (sym (sum64-zero (r .fed) h))
+unfolding absorbedParts absorbed
+parts-absorbed [] r h = sym (absorbed-none r h)
 parts-absorbed (m ∷ ms) r h = parts-absorbed ms (absorbed m r) (sum64-lt (r .fed) (length m)) ∙ sym (absorbed-append m (joined ms) r)
 
 parts-next : (ks : List ℕ) (r : Record) → r .drawn + total ks < 2 ^ 64 → nextParts ks r ≡ nextBytes (total ks) r

@@ -1,0 +1,28 @@
+-- The messages of the vectors, and bytes as hexadecimal digits.
+-- Assumes nothing.
+use mathlib.Core.Bool.{cond}
+use mathlib.Core.List.{List, [], _∷_}
+use Prim.Native.Nat.{ℕ, zero, suc, _+_, _-_, _/_, _%_}
+use lib.Dec.{ltb}
+use lib.ListN.{getD}
+
+-- n bytes that count up from k, and after 255 again from 0
+unfoldable pub countingFrom : ℕ → ℕ → List ℕ
+countingFrom k zero = []
+countingFrom k (suc n) = k % 256 ∷ countingFrom (suc k) n
+
+-- a digit's letter: 0 to 9, a to f
+abbrev pub digitOf : ℕ → ℕ
+digitOf n = cond (ltb n 10) (48 + n) (97 + (n - 10))
+
+-- two digits for each byte
+unfoldable pub hexOf : List ℕ → List ℕ
+hexOf [] = []
+hexOf (b ∷ bs) = digitOf (b / 16) ∷ digitOf (b % 16) ∷ hexOf bs
+
+-- the lengths of the messages: 0 to 129, and those after it
+abbrev pub longer : List ℕ
+longer = 255 ∷ 256 ∷ 257 ∷ 511 ∷ 512 ∷ 513 ∷ 1000 ∷ 1023 ∷ 1024 ∷ []
+
+unfoldable pub lengthOf : ℕ → ℕ
+lengthOf i = cond (ltb i 130) i (getD longer (i - 130) 0)

@@ -1,0 +1,128 @@
+// Prints the outputs of the four modes for messages of many lengths, whose bytes count up from 0. The stored output, crates/vectors/stdout, is the
+// outside vectors: known answers that were not made with this code.
+use sponge::Mode;
+use sponge::Record;
+ghost use mathlib.Core.Path.{_≡_};
+ghost use Prim.Native.Nat.{_*_, _≤_, _<_};
+ghost use lib.ListN.{length, take};
+ghost use Rattle.sponge.specs.Mode.{row};
+ghost use Rattle.sponge.specs.Sponge.{oneShot};
+ghost use Rattle.sponge.specs.Record.{absorbed};
+ghost use Rattle.vectors.specs.Text.{countingFrom, digitOf, hexOf, lengthOf};
+
+// The longest message.
+const LONGEST: usize = 1024;
+
+// The bytes 0, 1, 2, .. and after 255 again 0.
+fn counting() -> [u8; 1024]
+    ensures { λ r. ⌜ r ≡ countingFrom 0 1024 ⌝ }
+{
+    let mut bytes = [0u8; 1024];
+    let mut i = 0;
+    while i < LONGEST {
+        bytes[i] = (i % 256) as u8;
+        i += 1;
+    }
+    bytes
+}
+
+// A message is fed in pieces of 1, 2, 3, .. bytes.
+fn absorb_in_pieces(s: Record, message: &[u8]) -> Record
+    ensures { λ r. ⌜ r ≡ absorbed (now (message .entry)) s ⌝ }
+{
+    let mut current = s;
+    let mut done = 0;
+    let mut size = 0;
+    while done < message.len() {
+        size += 1;
+        let end = done + state::shorter(size, message.len() - done);
+        current = current.absorb(&message[done..end]);
+        done = end;
+    }
+    current
+}
+
+// The output of a mode for a message.
+fn output(mode: Mode, key: &[u8], message: &[u8], out: &mut [u8])
+    ensures { λ r. ⌜ now (out .exit) ≡ oneShot (row mode) (now (key .entry)) (now (message .entry)) (length (now (out .entry))) ⌝ }
+{
+    let fresh = Record::fresh(1, mode, key);
+    let fed = absorb_in_pieces(fresh, message);
+    let ended = fed.finish();
+    let _ = ended.squeeze(out);
+}
+
+// The hexadecimal digit of a number below 16.
+fn digit(n: u8) -> u8
+    requires { ⌜ n < 16 ⌝ }
+    ensures { λ r. ⌜ r ≡ digitOf n ⌝ }
+{
+    if n < 10 {
+        return b'0' + n;
+    }
+    b'a' + (n - 10)
+}
+
+// Two digits for each byte.
+fn hex(bytes: &[u8], text: &mut [u8])
+    requires { ⌜ 2 * length (now bytes) ≡ length (now text) ⌝ }
+    ensures { λ r. ⌜ now (text .exit) ≡ hexOf (now (bytes .entry)) ⌝ }
+{
+    let mut i = 0;
+    while i < bytes.len() {
+        text[2 * i] = digit(bytes[i] / 16);
+        text[2 * i + 1] = digit(bytes[i] % 16);
+        i += 1;
+    }
+}
+
+// The length of message number i: every length up to 129, and then some longer ones on both sides of a block's end.
+fn nth_length(i: usize) -> usize
+    ensures { λ r. ⌜ r ≡ lengthOf i ⌝ }
+{
+    if i < 130 {
+        return i;
+    }
+    let longer = [255usize, 256, 257, 511, 512, 513, 1000, 1023, 1024];
+    if i < 139 {
+        return longer[i - 130];
+    }
+    0
+}
+
+// The digits of a mode's output for the first n of some bytes, the first sixteen being the key.
+fn digits(mode: Mode, bytes: &[u8], n: usize, out: &mut [u8], text: &mut [u8])
+    requires { ⌜ (16 ≤ length (now bytes)) × (n ≤ length (now bytes)) × (2 * length (now out) ≡ length (now text)) ⌝ }
+    ensures { λ r. ⌜ now (text .exit) ≡ hexOf (oneShot (row mode) (take 16 (now (bytes .entry))) (take n (now (bytes .entry))) (length (now (out .entry)))) ⌝ }
+{
+    output(mode, &bytes[..16], &bytes[..n], &mut *out);
+    hex(&*out, text);
+}
+
+// The lines of a mode: a message's length, a space, and the digits of the output.
+fn print_mode(mode: Mode, bytes: &[u8], out: &mut [u8], text: &mut [u8])
+    requires { ⌜ (1024 ≤ length (now bytes)) × (2 * length (now out) ≡ length (now text)) ⌝ }
+{
+    let mut i = 0;
+    while i < 139 {
+        let n = nth_length(i);
+        digits(mode, bytes, n, &mut *out, &mut *text);
+        io::print_decimal(1, n as u64);
+        io::write_all(1, b" ");
+        io::write_all(1, &*text);
+        io::write_all(1, b"\n");
+        i += 1;
+    }
+}
+
+fn main() {
+    let bytes = counting();
+    io::write_all(1, b"hash\n");
+    print_mode(Mode::Hash, &bytes, &mut [0u8; 32], &mut [0u8; 64]);
+    io::write_all(1, b"xof\n");
+    print_mode(Mode::Xof, &bytes, &mut [0u8; 64], &mut [0u8; 128]);
+    io::write_all(1, b"prf\n");
+    print_mode(Mode::Prf, &bytes, &mut [0u8; 64], &mut [0u8; 128]);
+    io::write_all(1, b"mac\n");
+    print_mode(Mode::Mac, &bytes, &mut [0u8; 16], &mut [0u8; 32]);
+}
