@@ -102,7 +102,7 @@ void compare(const char *name, batch *proved, batch *plain, void *with, int pair
         of[4][i] = p.seconds / c.seconds;
     }
     printf("%-28s", name);
-    for (int k = 0; k < 4; k++) printf(" %9.1f", share(of[k], pairs, 0.5));
+    for (int k = 0; k < 4; k++) printf(" %9.2f", share(of[k], pairs, 0.5));
     printf("   %.3f (%.3f to %.3f)\n", share(of[4], pairs, 0.5), share(of[4], pairs, 0.25), share(of[4], pairs, 0.75));
     for (int k = 0; k < 5; k++) free(of[k]);
 }

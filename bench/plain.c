@@ -1,6 +1,8 @@
 /* See plain.h. The bitsliced form that implementations of Ascon commonly have. */
 #include "plain.h"
 
+#include <string.h>
+
 static inline uint64_t rotate(uint64_t x, int n) { return x >> n | x << (64 - n); }
 
 static inline void permute(uint64_t s[5]) {
@@ -43,4 +45,57 @@ uint64_t plain_permute_chain(uint64_t x0, uint64_t times) {
     uint64_t s[5] = {x0, 0, 0, 0, 0};
     for (uint64_t i = 0; i < times; i++) permute(s);
     return s[0];
+}
+
+/* Eight bytes as a word, the first on top, in one load; a word as eight bytes, in one store. */
+static inline uint64_t load(const uint8_t *bytes) {
+    uint64_t x;
+    memcpy(&x, bytes, 8);
+    return __builtin_bswap64(x);
+}
+
+static inline void store(uint8_t *bytes, uint64_t x) {
+    x = __builtin_bswap64(x);
+    memcpy(bytes, &x, 8);
+}
+
+/* Fewer than eight bytes and the padding, as a word. */
+static inline uint64_t load_last(const uint8_t *bytes, size_t n) {
+    uint64_t x = (uint64_t)0x80 << (56 - 8 * n);
+    for (size_t i = 0; i < n; i++) x |= (uint64_t)bytes[i] << (56 - 8 * i);
+    return x;
+}
+
+uint64_t plain_hash(const uint8_t *message, size_t length, uint8_t out[32]) {
+    uint64_t s[5] = {0x00400c0000000100u, 0, 0, 0, 0}, runs = 1;
+    permute(s);
+    for (; length >= 8; message += 8, length -= 8, runs++) {
+        s[0] ^= load(message);
+        permute(s);
+    }
+    s[0] ^= load_last(message, length);
+    permute(s);
+    store(out, s[0]);
+    for (int i = 1; i < 4; i++) {
+        permute(s);
+        store(out + 8 * i, s[0]);
+    }
+    return runs + 4;
+}
+
+uint64_t plain_mac(const uint8_t key[16], const uint8_t *message, size_t length, uint8_t out[16]) {
+    uint64_t s[5] = {0x80808c0000000080u, load(key), load(key + 8), 0, 0}, runs = 1;
+    permute(s);
+    for (; length >= 32; message += 32, length -= 32, runs++) {
+        for (int j = 0; j < 4; j++) s[j] ^= load(message + 8 * j);
+        permute(s);
+    }
+    size_t j = 0;
+    for (; length >= 8; message += 8, length -= 8) s[j++] ^= load(message);
+    s[j] ^= load_last(message, length);
+    s[4] ^= 1;
+    permute(s);
+    store(out, s[0]);
+    store(out + 8, s[1]);
+    return runs + 1;
 }

@@ -1,7 +1,7 @@
-/* The Ascon permutation for the test bench: the C functions of target/staticlib/libbench.a, which `rt staticlib bench` writes.
+/* The Ascon permutation and sponge for the test bench: the C functions of target/staticlib/libbench.a, which `rt staticlib bench` writes.
  *
- * Both are proved against the definitions of crates/permutation/specs. They keep nothing between calls and allocate nothing.
- * C is trusted to hand over a valid buffer of the length that it names. */
+ * All are proved against the definitions of crates/permutation/specs and crates/sponge/specs. They keep nothing between calls and allocate nothing.
+ * C is trusted to hand over valid buffers of the lengths that it names, of which the one written to overlaps no other. */
 #ifndef BENCH_H
 #define BENCH_H
 
@@ -18,6 +18,19 @@ uint32_t bench_permute_row(uint64_t *row, size_t length);
 
 /* Permutes the state x0, 0, 0, 0, 0 `times` times over and gives its first word. */
 uint64_t bench_permute_chain(uint64_t x0, uint64_t times);
+
+/* Writes `out_length` bytes of the output of a mode for a message, and gives how many times the state was permuted.
+ * The modes: 1 PRF, 2 MAC, 3 hash, 4 XOF. Modes 1 and 2 take a key of 16 bytes; of a longer one the first 16 count, and a shorter one is followed by zeros.
+ * Modes 3 and 4 take no notice of a key.
+ * The message is fed in two parts, the first of `cut` bytes, and the output is drawn in two, the first of `first` bytes; a number past the end is the end.
+ * Neither number makes a difference to what is written or given.
+ * A `mode` that is not 1 to 4 is answered 0, and nothing is written. */
+uint64_t bench_sponge(const uint8_t *key, size_t key_length, const uint8_t *message, size_t message_length, uint8_t *out, size_t out_length,
+                      uint32_t mode, size_t cut, size_t first);
+
+/* Gives 1 where the tag equals as many first bytes of the message's MAC of 16 bytes, and 0 where it does not or is longer.
+ * Every byte of the tag is looked at, whatever the others are. */
+uint32_t bench_tag(const uint8_t *key, size_t key_length, const uint8_t *message, size_t message_length, const uint8_t *tag, size_t tag_length);
 
 #ifdef __cplusplus
 }

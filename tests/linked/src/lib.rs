@@ -3,6 +3,25 @@
 extern "C" {
     fn bench_permute_row(row: *mut u64, length: usize) -> u32;
     fn bench_permute_chain(x0: u64, times: u64) -> u64;
+    fn bench_sponge(
+        key: *const u8,
+        key_length: usize,
+        message: *const u8,
+        message_length: usize,
+        out: *mut u8,
+        out_length: usize,
+        mode: u32,
+        cut: usize,
+        first: usize,
+    ) -> u64;
+    fn bench_tag(
+        key: *const u8,
+        key_length: usize,
+        message: *const u8,
+        message_length: usize,
+        tag: *const u8,
+        tag_length: usize,
+    ) -> u32;
 }
 
 /// Permutes a row of five words and gives 0; gives the refusal for any other row.
@@ -15,4 +34,65 @@ pub fn permute_row(row: &mut [u64]) -> u32 {
 pub fn permute_chain(x0: u64, times: u64) -> u64 {
     // SAFETY: it takes and gives numbers.
     unsafe { bench_permute_chain(x0, times) }
+}
+
+/// The output of a mode for a message, as much as is lent, and the runs made: the message is fed in two parts, and the output drawn in two.
+pub fn sponge(
+    mode: u32,
+    key: &[u8],
+    message: &[u8],
+    cut: usize,
+    out: &mut [u8],
+    first: usize,
+) -> u64 {
+    // SAFETY: each pointer and the length after it are those of one slice, lent for the call alone; out is lent to it alone.
+    unsafe {
+        bench_sponge(
+            key.as_ptr(),
+            key.len(),
+            message.as_ptr(),
+            message.len(),
+            out.as_mut_ptr(),
+            out.len(),
+            mode,
+            cut,
+            first,
+        )
+    }
+}
+
+/// Whether a tag is as many first bytes of the MAC of a message: 1, or 0.
+pub fn tag(key: &[u8], message: &[u8], tag: &[u8]) -> u32 {
+    // SAFETY: each pointer and the length after it are those of one slice, lent for the call alone.
+    unsafe {
+        bench_tag(
+            key.as_ptr(),
+            key.len(),
+            message.as_ptr(),
+            message.len(),
+            tag.as_ptr(),
+            tag.len(),
+        )
+    }
+}
+
+/// A generator of test numbers (splitmix64): the same numbers in every run.
+pub struct Numbers(pub u64);
+
+impl Numbers {
+    #[allow(clippy::should_implement_trait)]
+    pub fn next(&mut self) -> u64 {
+        self.0 = self.0.wrapping_add(0x9e3779b97f4a7c15);
+        let mut z = self.0;
+        z = (z ^ z >> 30).wrapping_mul(0xbf58476d1ce4e5b9);
+        z = (z ^ z >> 27).wrapping_mul(0x94d049bb133111eb);
+        z ^ z >> 31
+    }
+}
+
+impl Numbers {
+    /// So many bytes.
+    pub fn bytes(&mut self, length: usize) -> Vec<u8> {
+        (0..length).map(|_| self.next() as u8).collect()
+    }
 }

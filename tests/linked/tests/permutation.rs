@@ -1,23 +1,10 @@
-//! The linked permutation against the printed state, the vectors of the hash and the reference, and its refusals.
-use linked::{permute_chain, permute_row};
-use reference::{assert_hash_vectors, permute, HASH_START};
+//! The linked permutation against the printed state, the outside vectors and the reference, and its refusals.
+use linked::{permute_chain, permute_row, Numbers};
+use reference::{assert_vectors, permute, HASH};
 
 /// Permutes a state by the linked function.
 fn permute_linked(state: &mut [u64; 5]) {
     assert_eq!(permute_row(state), 0);
-}
-
-/// A generator of test numbers (splitmix64): the same numbers in every run.
-struct Numbers(u64);
-
-impl Numbers {
-    fn next(&mut self) -> u64 {
-        self.0 = self.0.wrapping_add(0x9e3779b97f4a7c15);
-        let mut z = self.0;
-        z = (z ^ z >> 30).wrapping_mul(0xbf58476d1ce4e5b9);
-        z = (z ^ z >> 27).wrapping_mul(0x94d049bb133111eb);
-        z ^ z >> 31
-    }
 }
 
 fn assert_agrees(state: [u64; 5]) {
@@ -29,7 +16,7 @@ fn assert_agrees(state: [u64; 5]) {
 
 #[test]
 fn the_hash_state_after_its_first_run() {
-    let mut state = [HASH_START, 0, 0, 0, 0];
+    let mut state = [HASH.start, 0, 0, 0, 0];
     permute_linked(&mut state);
     let printed = [
         0xee9398aadb67f03d,
@@ -42,8 +29,8 @@ fn the_hash_state_after_its_first_run() {
 }
 
 #[test]
-fn the_hash_vectors() {
-    assert_hash_vectors(permute_linked);
+fn the_vectors() {
+    assert_vectors(permute_linked);
 }
 
 #[test]
@@ -92,16 +79,16 @@ fn only_the_lent_words_change() {
 
 #[test]
 fn chains_of_permutations() {
-    for x0 in [0, 1, HASH_START, u64::MAX] {
+    for x0 in [0, 1, HASH.start, u64::MAX] {
         let mut state = [x0, 0, 0, 0, 0];
         for times in 0..100 {
             assert_eq!(permute_chain(x0, times), state[0], "{x0:x}, {times} times");
             permute(&mut state);
         }
     }
-    let mut state = [HASH_START, 0, 0, 0, 0];
+    let mut state = [HASH.start, 0, 0, 0, 0];
     for _ in 0..65_537 {
         permute(&mut state);
     }
-    assert_eq!(permute_chain(HASH_START, 65_537), state[0]);
+    assert_eq!(permute_chain(HASH.start, 65_537), state[0]);
 }

@@ -14,9 +14,6 @@ const S_BOX: [u8; 32] = [
 /// How far the two copies of each word are rotated right.
 const ROTATIONS: [[u32; 2]; 5] = [[19, 28], [61, 39], [1, 6], [10, 17], [7, 41]];
 
-/// The start word of ASCON-HASH in the table of source document 004.
-pub const HASH_START: u64 = 0x00400c0000000100;
-
 /// The twelve rounds.
 pub fn permute(state: &mut [u64; 5]) {
     for constant in ROUND_CONSTANTS {
@@ -40,45 +37,159 @@ fn substitute(state: &[u64; 5]) -> [u64; 5] {
     after
 }
 
-/// ASCON-HASH over any permutation of five words, so that vectors of the hash try the permutation handed in.
-fn hash(permute: impl Fn(&mut [u64; 5]), message: &[u8]) -> [u8; 32] {
-    let mut state = [HASH_START, 0, 0, 0, 0];
-    permute(&mut state);
+/// A mode of document 01, by its number: the start word, both rates in bytes, and whether it takes a key and flips a bit before the last block's run.
+pub struct Mode {
+    pub number: u32,
+    pub start: u64,
+    pub feed_rate: usize,
+    pub draw_rate: usize,
+    pub keyed: bool,
+}
+
+/// ASCON-PRF, source document 003, table 2 and its start value for output of any length.
+pub const PRF: Mode = Mode {
+    number: 1,
+    start: 0x80808c0000000000,
+    feed_rate: 32,
+    draw_rate: 16,
+    keyed: true,
+};
+
+/// ASCON-MAC, the same with 128 bits of output.
+pub const MAC: Mode = Mode {
+    number: 2,
+    start: 0x80808c0000000080,
+    ..PRF
+};
+
+/// ASCON-HASH, source document 004's table of start values.
+pub const HASH: Mode = Mode {
+    number: 3,
+    start: 0x00400c0000000100,
+    feed_rate: 8,
+    draw_rate: 8,
+    keyed: false,
+};
+
+/// ASCON-XOF, the same with output of any length.
+pub const XOF: Mode = Mode {
+    number: 4,
+    start: 0x00400c0000000000,
+    ..HASH
+};
+
+pub const MODES: [&Mode; 4] = [&PRF, &MAC, &HASH, &XOF];
+
+/// The key of the vectors: 00 01 .. 0f.
+pub const KEY: [u8; 16] = [0, 1, 2, 3, 4, 5, 6, 7, 8, 9, 10, 11, 12, 13, 14, 15];
+
+/// The output of a mode for a message, and how many times the state was permuted, over any permutation of five words: so vectors try the one handed in.
+pub fn sponge(
+    permute: impl Fn(&mut [u64; 5]),
+    mode: &Mode,
+    key: &[u8; 16],
+    message: &[u8],
+    length: usize,
+) -> (Vec<u8>, u64) {
+    let mut runs = 0;
+    let mut run = |state: &mut [u8; 40]| {
+        let mut words: [u64; 5] =
+            std::array::from_fn(|i| u64::from_be_bytes(state[8 * i..][..8].try_into().unwrap()));
+        permute(&mut words);
+        for (bytes, word) in state.chunks_mut(8).zip(words) {
+            bytes.copy_from_slice(&word.to_be_bytes());
+        }
+        runs += 1;
+    };
+    let mut state = [0; 40];
+    state[..8].copy_from_slice(&mode.start.to_be_bytes());
+    if mode.keyed {
+        state[8..24].copy_from_slice(key);
+    }
+    run(&mut state);
     let mut padded = message.to_vec();
     padded.push(0x80);
-    padded.resize(padded.len().next_multiple_of(8), 0);
-    for block in padded.chunks(8) {
-        state[0] ^= u64::from_be_bytes(block.try_into().unwrap());
-        permute(&mut state);
-    }
-    let mut output = [0; 32];
-    for (i, block) in output.chunks_mut(8).enumerate() {
-        if i > 0 {
-            permute(&mut state);
+    padded.resize(padded.len().next_multiple_of(mode.feed_rate), 0);
+    let blocks = padded.len() / mode.feed_rate;
+    for (i, block) in padded.chunks(mode.feed_rate).enumerate() {
+        for (byte, fed) in state.iter_mut().zip(block) {
+            *byte ^= fed;
         }
-        block.copy_from_slice(&state[0].to_be_bytes());
+        if mode.keyed && i == blocks - 1 {
+            state[39] ^= 1;
+        }
+        run(&mut state);
     }
-    output
+    let mut output = state[..mode.draw_rate].to_vec();
+    while output.len() < length {
+        run(&mut state);
+        output.extend_from_slice(&state[..mode.draw_rate]);
+    }
+    output.truncate(length);
+    (output, runs)
 }
 
-/// Holds the hash over a permutation against the outside vectors: messages whose bytes count up from 0, and their outputs in hex.
-pub fn assert_hash_vectors(permute: impl Fn(&mut [u64; 5])) {
-    let vectors: Vec<&str> = include_str!("../../data/hash.txt")
-        .lines()
-        .filter(|line| !line.starts_with('#'))
-        .collect();
-    assert_eq!(vectors.len(), 139, "lines of data/hash.txt");
-    for vector in vectors {
-        let (length, output) = vector.split_once(' ').expect("two columns");
-        let length: usize = length.parse().expect("a length");
-        let message: Vec<u8> = (0..length).map(|i| i as u8).collect();
-        assert_eq!(hex(&hash(&permute, &message)), output, "{length} bytes");
+/// An outside vector: a mode, the length of a message whose bytes count up from 0, and the output.
+pub struct Vector {
+    pub mode: &'static Mode,
+    pub length: usize,
+    pub output: Vec<u8>,
+}
+
+/// The outside vectors, which the program `vectors` is held to as well: a line with a function's name, then lines with a message's length and an output.
+pub fn vectors() -> Vec<Vector> {
+    let mut mode = None;
+    let mut vectors = Vec::new();
+    for line in include_str!("../../../crates/vectors/stdout").lines() {
+        match line.split_once(' ') {
+            None => {
+                mode = Some(match line {
+                    "hash" => &HASH,
+                    "xof" => &XOF,
+                    "prf" => &PRF,
+                    "mac" => &MAC,
+                    other => panic!("no function has the name {other}"),
+                })
+            }
+            Some((length, output)) => vectors.push(Vector {
+                mode: mode.expect("a name before the first vector"),
+                length: length.parse().expect("a length"),
+                output: unhex(output),
+            }),
+        }
+    }
+    assert_eq!(vectors.len(), 4 * 139, "lines of crates/vectors/stdout");
+    vectors
+}
+
+/// Holds the four modes over a permutation against the outside vectors.
+pub fn assert_vectors(permute: impl Fn(&mut [u64; 5])) {
+    for vector in vectors() {
+        let (output, _) = sponge(
+            &permute,
+            vector.mode,
+            &KEY,
+            &counting(vector.length),
+            vector.output.len(),
+        );
+        assert_eq!(
+            output, vector.output,
+            "mode {}, {} bytes",
+            vector.mode.number, vector.length
+        );
     }
 }
 
-/// Bytes as lower-case hex.
-fn hex(bytes: &[u8]) -> String {
-    bytes.iter().map(|byte| format!("{byte:02x}")).collect()
+/// The message of a vector: bytes that count up from 0, and after 255 again from 0.
+pub fn counting(length: usize) -> Vec<u8> {
+    (0..length).map(|i| i as u8).collect()
+}
+
+/// The bytes of lower-case hex.
+fn unhex(digits: &str) -> Vec<u8> {
+    (0..digits.len() / 2)
+        .map(|i| u8::from_str_radix(&digits[2 * i..2 * i + 2], 16).expect("two digits"))
+        .collect()
 }
 
 #[cfg(test)]
@@ -93,7 +204,39 @@ mod tests {
     }
 
     #[test]
-    fn the_hash_vectors() {
-        assert_hash_vectors(permute);
+    fn the_vectors() {
+        assert_vectors(permute);
+    }
+
+    /// What the authors print of their known-answer files.
+    #[test]
+    fn the_published_vectors() {
+        let of = |mode, message: &[u8], length| sponge(permute, mode, &KEY, message, length).0;
+        let published = [
+            (
+                &HASH,
+                &[][..],
+                "7346bc14f036e87ae03d0997913088f5f68411434b3cf8b54fa796a80d251f91",
+            ),
+            (
+                &HASH,
+                &[0],
+                "8dd446ada58a7740ecf56eb638ef775f7d5c0fd5f0c2bbbdfdec29609d3c43a2",
+            ),
+            (
+                &XOF,
+                &[],
+                "5d4cbde6350ea4c174bd65b5b332f8408f99740b81aa02735eaefbcf0ba0339e",
+            ),
+            (
+                &XOF,
+                &[0],
+                "b2edbb27ac8397a55bc83d137c151de9ede048338fe907f0d3629e717846fedc",
+            ),
+            (&MAC, &[], "eb1af688825d66bf2d53e135f9323315"),
+        ];
+        for (mode, message, output) in published {
+            assert_eq!(of(mode, message, output.len() / 2), unhex(output));
+        }
     }
 }
