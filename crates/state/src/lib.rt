@@ -7,6 +7,7 @@ ghost use lib.ListN.{length, getD, take, drop};
 ghost use lib.Dec.{eqb, leb};
 ghost use lib.Seq.{sets};
 ghost use Rattle.word.specs.Bytes as spec;
+ghost use Rattle.state.specs.State.{wholeWords};
 
 // x xored into word j. A constant index at each store keeps the words in registers.
 pub fn xor_word(words: [u64; 5], j: usize, x: u64) -> [u64; 5]
@@ -152,11 +153,11 @@ fn window_part(k: usize, bytes: &[u8], start: usize) -> u64
     x
 }
 
-// Bytes xored in from byte k on, word by word.
-fn xor_windows(words: [u64; 5], k: usize, bytes: &[u8]) -> [u64; 5]
-    requires { ⌜ k < 2 ^ 32 ⌝ }
-    ensures { λ r. ⌜ r ≡ spec.xorFrom k (now (bytes .entry)) words ⌝ }
+// Bytes xored in from a place on, word by word.
+pub fn xor_bytes(words: [u64; 5], place: u32, bytes: &[u8]) -> [u64; 5]
+    ensures { λ r. ⌜ r ≡ spec.xorFrom place (now (bytes .entry)) words ⌝ }
 {
+    let k = place as usize;
     [
         words[0] ^ window(k, bytes, 0),
         words[1] ^ window(k, bytes, 1),
@@ -166,10 +167,10 @@ fn xor_windows(words: [u64; 5], k: usize, bytes: &[u8]) -> [u64; 5]
     ]
 }
 
-// Word j of bytes that make whole words; 0 past their end.
+// Word j of the bytes' whole words; 0 past the last.
 fn whole_word_of(bytes: &[u8], j: usize) -> u64
-    requires { ⌜ (length (now bytes) % 8 ≡ 0) × (j < 5) ⌝ }
-    ensures { λ r. ⌜ r ≡ spec.window 0 (now (bytes .entry)) j ⌝ }
+    requires { ⌜ j < 5 ⌝ }
+    ensures { λ r. ⌜ r ≡ spec.window 0 (wholeWords (now (bytes .entry))) j ⌝ }
 {
     if 8 * j + 8 <= bytes.len() {
         return word_at(bytes, 8 * j);
@@ -177,10 +178,9 @@ fn whole_word_of(bytes: &[u8], j: usize) -> u64
     0
 }
 
-// Bytes that make whole words, xored in from the first word on.
-fn xor_whole_words(words: [u64; 5], bytes: &[u8]) -> [u64; 5]
-    requires { ⌜ length (now bytes) % 8 ≡ 0 ⌝ }
-    ensures { λ r. ⌜ r ≡ spec.xorFrom 0 (now (bytes .entry)) words ⌝ }
+// The bytes' whole words xored in from the first word on. Bytes after the last whole word are left out. Long messages are made of such blocks.
+pub fn xor_words(words: [u64; 5], bytes: &[u8]) -> [u64; 5]
+    ensures { λ r. ⌜ r ≡ spec.xorFrom 0 (wholeWords (now (bytes .entry))) words ⌝ }
 {
     [
         words[0] ^ whole_word_of(bytes, 0),
@@ -189,18 +189,6 @@ fn xor_whole_words(words: [u64; 5], bytes: &[u8]) -> [u64; 5]
         words[3] ^ whole_word_of(bytes, 3),
         words[4] ^ whole_word_of(bytes, 4),
     ]
-}
-
-// Bytes xored in from a place on. The case of a whole block is apart, since it is the one that long messages are made of.
-pub fn xor_bytes(words: [u64; 5], place: u32, bytes: &[u8]) -> [u64; 5]
-    ensures { λ r. ⌜ r ≡ spec.xorFrom place (now (bytes .entry)) words ⌝ }
-{
-    if place == 0 {
-        if bytes.len() % 8 == 0 {
-            return xor_whole_words(words, bytes);
-        }
-    }
-    xor_windows(words, place as usize, bytes)
 }
 
 // Whether byte k begins a word of which all eight bytes are asked for.

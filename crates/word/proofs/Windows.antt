@@ -5,7 +5,7 @@ use mathlib.Core.Path.{_≡_, refl, sym, ap, ap₂, _∙_}
 use mathlib.Core.List.{List, [], _∷_, _++_}
 use Prim.Native.Nat.{ℕ, zero, suc, _+_, _-_, _*_, _/_, _≤_, _<_}
 use native.Mathlib.Decide.{decLt, ℕ-discrete}
-use native.Mathlib.Nat.{add-zero, add-suc, suc-add}
+use native.Mathlib.Nat.{add-zero, add-suc, suc-add, sub-zero}
 use native.Mathlib.Omega.{arith}
 use borrow.Author.Tests.{eq-eqb, ne-eqb}
 use lib.Bits.{bitXor, xor-zero-r}
@@ -89,6 +89,13 @@ window-all bs k j bytes before after =
     ∙ window-split (drop n bs) 8 (8 * j) j (omega (arith, length-drop n bs))
     ∙ ap₂ bitXor (window-word (take 8 (drop n bs)) j (part-bytes 8 n bs bytes) eight) (window-past (drop 8 (drop n bs)) (8 * j + 8) j (omega arith))
     ∙ xor-zero-r (fromBytes (take 8 (drop n bs)))
+
+-- and if the first n bytes alone are taken, all eight bytes are among them
+pub window-first : (bs : List ℕ) (n j : ℕ) → Bytes bs → n ≤ length bs → 8 * j + 8 ≤ n → window 0 (take n bs) j ≡ fromBytes (take 8 (drop (8 * j) bs))
+window-first bs n j bytes h l =
+    let whole : window 0 bs j ≡ window 0 (take n bs) j =
+    window-split bs n 0 j h ∙ ap (bitXor (window 0 (take n bs) j)) (window-past (drop n bs) (0 + n) j (omega arith)) ∙ xor-zero-r (window 0 (take n bs) j) in
+    sym whole ∙ rw sub-zero at (window-all bs 0 j bytes (omega arith) (omega arith))
 
 -- ---- words
 

@@ -2,8 +2,9 @@
 use super::Record;
 use crate::mode::Mode;
 ghost use mathlib.Core.Path.{_≡_};
-ghost use Prim.Native.Nat.{_+_, _%_, _<_, _≤_};
+ghost use Prim.Native.Nat.{_+_, _%_, _^_, _<_, _≤_};
 ghost use lib.ListN.{length};
+ghost use Rattle.word.specs.Bytes.{xorFrom};
 ghost use Rattle.sponge.specs.Mode.{row};
 ghost use Rattle.sponge.specs.Sponge.{flipIf};
 ghost use Rattle.sponge.specs.Record as spec;
@@ -24,6 +25,19 @@ fn flip(mode: Mode, words: [u64; 5]) -> [u64; 5]
         return state::xor_word(words, 4, 1);
     }
     words
+}
+
+// Bytes xored into the block from a place on. Whole blocks are apart, since long messages are made of them.
+fn xor_part(words: [u64; 5], place: usize, bytes: &[u8]) -> [u64; 5]
+    requires { ⌜ place < 2 ^ 32 ⌝ }
+    ensures { λ r. ⌜ r ≡ xorFrom place (now (bytes .entry)) words ⌝ }
+{
+    if place == 0 {
+        if bytes.len() % 8 == 0 {
+            return state::xor_words(words, bytes);
+        }
+    }
+    state::xor_bytes(words, place as u32, bytes)
 }
 
 impl Record {
@@ -54,7 +68,7 @@ impl Record {
     {
         let mode = self.mode;
         let before = self.words;
-        let after = state::xor_bytes(before, place as u32, bytes);
+        let after = xor_part(before, place, bytes);
         let mut current = self;
         current.words = after;
         if place + bytes.len() == mode.feed_rate() {

@@ -1,10 +1,14 @@
 -- `state::whole_word_of` meets its contract: all eight bytes of the word are there, or none.
 -- Assumes nothing.
-use mathlib.Core.Path.{_≡_, sym, _∙_}
-use native.Mathlib.Nat.{sub-zero}
+use mathlib.Core.Path.{_≡_, sym, ap, _∙_}
+use mathlib.Core.List.{List}
+use Prim.Native.Nat.{ℕ, _*_, _/_, _≤_}
 use native.Mathlib.Omega.{arith}
+use lib.ListN.{length}
+use lib.Seq.{length-take-le}
 use Rattle.word.proofs.Bytes.{Bytes}
-use Rattle.word.proofs.Windows.{window-before, window-all}
+use Rattle.word.proofs.Windows.{window-before, window-first}
+use Rattle.state.specs.State.{wholeWords}
 use borrow.Author.Needs.{needs}
 use Rattle.state.proofs.whole_word_of.Statement.{statement}
 use Rattle.state.proofs.whole_word_of.Tie as tie
@@ -25,13 +29,13 @@ returns : tie.Need-returns
 returns c =
     let a = c .before .before .before .args in
     let bytes : Bytes (a .bytes .now) = λ i. omega (arith, c .before .before .shared-slice-known .given i) in
-    let all = window-all (a .bytes .now) 0 (a .j) bytes (omega arith) (omega arith) in
-    c .word-at .ensures ∙ sym (rw sub-zero at all)
+    c .word-at .ensures ∙ sym (window-first (a .bytes .now) (8 * (length (a .bytes .now) / 8)) (a .j) bytes (omega arith) (omega arith))
 
 returns-2 : tie.Need-returns-2
 returns-2 c =
     let a = c .before .before .args in
-    sym (window-before (a .bytes .now) 0 (a .j) (omega arith))
+    let count : length (wholeWords (a .bytes .now)) ≡ 8 * (length (a .bytes .now) / 8) = length-take-le (8 * (length (a .bytes .now) / 8)) (a .bytes .now) (omega arith) in
+    sym (window-before (wholeWords (a .bytes .now)) 0 (a .j) (omega arith))
 
 pub whole-word-of-spec : {M : Type 1} → statement M
 whole-word-of-spec =

@@ -16,11 +16,8 @@ use borrow.Author.Needs.{needs}
 use Rattle.sponge.proofs.record.Record.fill.Statement.{statement}
 use Rattle.sponge.proofs.record.Record.fill.Tie as tie
 
-cast-xor-bytes : tie.Need-cast-xor-bytes
-cast-xor-bytes c = omega (arith, rates (c .before .before .args .self .mode) .feeds-inside)
-
-xor-bytes-requires : tie.Need-xor-bytes-requires
-xor-bytes-requires c κs = search needs
+xor-part-requires : tie.Need-xor-part-requires
+xor-part-requires c κs = omega (arith, rates (c .before .before .args .self .mode) .feeds-inside)
 
 add-if1 : tie.Need-add-if1
 add-if1 c = omega (arith, rates (c .before .before .before .args .self .mode) .feeds-inside)
@@ -36,21 +33,20 @@ unfolding filled runIf inWords
 returns c =
     let a = c .before .before .before .before .before .before .args in
     let full : eqb (a .place + length (now (a .bytes))) (row (a .self .mode) .feedRate) ≡ true = eq-eqb _ _ (c .before .if1 .taken ∙ c .before .before .feed-rate .ensures) in
-    rw (full, c .run .ensures, c .before .before .before .xor-bytes .ensures)
+    rw (full, c .run .ensures, c .before .before .before .xor-part .ensures)
 
 returns-2 : tie.Need-returns-2
 unfolding filled runIf inWords
 returns-2 c =
     let a = c .before .before .before .before .before .args in
     let part : eqb (a .place + length (now (a .bytes))) (row (a .self .mode) .feedRate) ≡ false = ne-eqb _ _ (λ e. c .if1 .left (e ∙ sym (c .before .feed-rate .ensures))) in
-    rw (part, c .before .before .xor-bytes .ensures)
+    rw (part, c .before .before .xor-part .ensures)
 
 pub fill-spec : {M : Type 1} → statement M
 fill-spec =
     tie.close
     (tie.spec
-    cast-xor-bytes
-    xor-bytes-requires
+    xor-part-requires
     add-if1
     feed-rate-requires
     run-requires

@@ -1,11 +1,12 @@
--- `state::xor_whole_words` meets its contract: each of the five words is xored with the number that the bytes make in it.
+-- `state::xor_words` meets its contract: each of the five words is xored with the number that the bytes make in it.
 -- Assumes nothing.
 use mathlib.Core.Path.{_≡_, sym}
 use lib.ListN.{length}
 use Rattle.word.proofs.Windows.{xorFrom-words}
+use Rattle.state.specs.State.{wholeWords}
 use borrow.Author.Needs.{needs}
-use Rattle.state.proofs.xor_whole_words.Statement.{statement}
-use Rattle.state.proofs.xor_whole_words.Tie as tie
+use Rattle.state.proofs.xor_words.Statement.{statement}
+use Rattle.state.proofs.xor_words.Tie as tie
 
 five : (c : tie.Start) → length (c .args .t1) ≡ 5
 five c = search needs
@@ -43,10 +44,10 @@ whole-word-of-requires-5 c κs = search needs
 returns : tie.Need-returns
 returns c =
     let a = c .before .before .before .before .before .before .args in
-    rw (c .whole-word-of5 .ensures, c .before .whole-word-of4 .ensures, c .before .before .whole-word-of3 .ensures, c .before .before .before .whole-word-of2 .ensures, c .before .before .before .before .whole-word-of .ensures) (sym (xorFrom-words 5 (a .bytes .now) (a .t1) 0 (five (c .before .before .before .before .before .before))))
+    rw (c .whole-word-of5 .ensures, c .before .whole-word-of4 .ensures, c .before .before .whole-word-of3 .ensures, c .before .before .before .whole-word-of2 .ensures, c .before .before .before .before .whole-word-of .ensures) (sym (xorFrom-words 5 (wholeWords (a .bytes .now)) (a .t1) 0 (five (c .before .before .before .before .before .before))))
 
-pub xor-whole-words-spec : {M : Type 1} → statement M
-xor-whole-words-spec =
+pub xor-words-spec : {M : Type 1} → statement M
+xor-words-spec =
     tie.close
     (tie.spec
     array-read-t6
