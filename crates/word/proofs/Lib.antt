@@ -5,3 +5,4 @@ pub mod Arrays
 pub mod Lists
 pub mod Bytes
 pub mod Windows
+pub mod Xored

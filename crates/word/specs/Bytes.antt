@@ -1,5 +1,5 @@
 -- Bytes of 64-bit words, the highest byte of a word first: byte k of some words is byte k % 8, from the top, of word k / 8.
--- A word past the end reads 0, and is not written. proofs/Bytes.antt has the law that tells `xorAt` byte by byte, `xored-byte`.
+-- A word past the end reads 0, and is not written. What xoring means byte by byte say `xored-byte` and `xored-block` (proofs/Xored.antt).
 -- Assumes nothing.
 use mathlib.Core.Bool.{cond}
 use mathlib.Core.List.{List, [], _∷_}

@@ -29,27 +29,27 @@ array-read-e c = search needs
 returns : tie.Need-returns
 returns c =
     let a = c .before .args in
-    xor-here (a .t1) (a .j) (a .x) 0 (len (c .before)) (c .if1 .taken)
+    xor-here (a .t1) (a .j) (a .x) 0 (len (c .before)) (omega arith)
 
 returns-2 : tie.Need-returns-2
 returns-2 c =
     let a = c .before .before .args in
-    xor-here (a .t1) (a .j) (a .x) 1 (len (c .before .before)) (c .if2 .taken)
+    xor-here (a .t1) (a .j) (a .x) 1 (len (c .before .before)) (omega arith)
 
 returns-3 : tie.Need-returns-3
 returns-3 c =
     let a = c .before .before .before .args in
-    xor-here (a .t1) (a .j) (a .x) 2 (len (c .before .before .before)) (c .if3 .taken)
+    xor-here (a .t1) (a .j) (a .x) 2 (len (c .before .before .before)) (omega arith)
 
 returns-4 : tie.Need-returns-4
 returns-4 c =
     let a = c .before .before .before .before .args in
-    xor-here (a .t1) (a .j) (a .x) 3 (len (c .before .before .before .before)) (c .if4 .taken)
+    xor-here (a .t1) (a .j) (a .x) 3 (len (c .before .before .before .before)) (omega arith)
 
 returns-5 : tie.Need-returns-5
 returns-5 c =
     let a = c .before .before .before .before .before .args in
-    xor-here (a .t1) (a .j) (a .x) 4 (len (c .before .before .before .before .before)) (c .if5 .taken)
+    xor-here (a .t1) (a .j) (a .x) 4 (len (c .before .before .before .before .before)) (omega arith)
 
 returns-6 : tie.Need-returns-6
 returns-6 c =
