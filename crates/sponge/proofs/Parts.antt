@@ -1,11 +1,11 @@
 -- A part of a block that is fed or drawn at once does what its bytes do one by one. Any row with rates above 0.
 -- Assumes nothing.
 use mathlib.Core.Path.{_≡_, refl, sym, ap, ap₂, _∙_}
-use mathlib.Core.Bool.{Bool, true, false, not, _&&_, and-false}
+use mathlib.Core.Bool.{Bool, true, false, not, and-false}
 use mathlib.Core.Logic.{_≢_}
 use mathlib.Core.List.{List, [], _∷_, _++_, append-assoc}
-use Prim.Native.Nat.{ℕ, zero, suc, _+_, _-_, _*_, _/_, _%_, _≤_, _<_, min}
-use native.Mathlib.Nat.{zero-add, suc-add, add-zero, add-suc, suc-mod, zero-mod, mod-eq-of-lt, mod-lt, add-mod-right}
+use Prim.Native.Nat.{ℕ, zero, suc, _+_, _-_, _%_, _≤_, _<_, min}
+use native.Mathlib.Nat.{add-zero, suc-mod, zero-mod, mod-eq-of-lt, mod-lt, add-mod-right}
 use native.Mathlib.Numerals.{add-one}
 use native.Mathlib.Decide.{decLt, ℕ-discrete}
 use native.Mathlib.Omega.{arith}
@@ -17,7 +17,7 @@ use Rattle.word.specs.Bytes.{bytesFrom, byteAt, xorFrom}
 use Rattle.word.proofs.Bytes.{length-bytesFrom}
 use Rattle.sponge.specs.declared.record.Record.{Record}
 use Rattle.sponge.specs.Mode.{Row}
-use Rattle.sponge.specs.Record.{afterRun, runIf, inWords, feedByte, feedBytes, ready, drawnBytes, afterDrawing}
+use Rattle.sponge.specs.Record.{afterRun, runIf, inWords, feedBytes, ready, drawnBytes, afterDrawing}
 use Rattle.sponge.specs.Parts.{filled, used}
 use Rattle.sponge.proofs.Places.{next-place, first-place, last-place, block-end}
 use Rattle.sponge.proofs.Feeding.{feedBytes-append, feed-part}

@@ -10,7 +10,7 @@ use native.Mathlib.Omega.{arith}
 use borrow.Author.Tests.{ltb-true}
 use lib.Dec.{ltb, lit<}
 use lib.ListN.{length, getD, set, take}
-use lib.Seq.{take-suc, take-suc-set, sets, take-all}
+use lib.Seq.{take-suc, take-suc-set}
 use Rattle.word.proofs.Bits.{below-at}
 use Rattle.word.proofs.Lists.{take-sets}
 use Rattle.vectors.specs.Text.{countingFrom, digitOf, hexOf, longer, lengthOf}

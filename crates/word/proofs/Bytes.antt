@@ -6,15 +6,14 @@ use mathlib.Core.Bool.{true}
 use mathlib.Core.List.{List, [], _∷_, _++_}
 use Prim.Native.Nat.{ℕ, zero, suc, _+_, _-_, _*_, _/_, _%_, _^_, _≤_, _<_}
 use native.Mathlib.Nat.{mod-lt, add-suc, add-zero, zero-add, suc-add, zero-mul, zero-lt-suc, not-suc-le-zero, le-of-suc-le-suc}
-use native.Mathlib.Numerals.{add-one}
 use native.Mathlib.Omega.{arith}
 use borrow.Author.Tests.{eq-eqb}
 use lib.Arith.{bin-ind, digits-lt}
 use lib.Bits.{bitXor, bitOr, differ, xor-step, xor-shr, xor-mod, xor-shifted, xor-zero-r, or-shifted}
 use lib.Dec.{eqb}
 use lib.Pow.{pow-add, shl-exact}
-use lib.ListN.{length, getD, set, take, drop, replicate, length-drop, take-append-drop}
-use lib.Seq.{set-getD, drop-cons, drop-drop, getD-drop, length-take-le, take-at, ext-getD}
+use lib.ListN.{length, getD, take, drop, replicate}
+use lib.Seq.{set-getD, getD-drop, take-at, ext-getD}
 use Rattle.word.specs.Bytes.{weight, byteAt, bytesFrom, xorWord, xorAt, xorFrom, window, fromBytes, toBytes}
 
 -- ---- exclusive or

@@ -1,6 +1,6 @@
 -- Bytes xored into words, word by word: word j is xored with the number that the bytes make in it, its window.
 -- Assumes nothing.
-use mathlib.Core.Bool.{Bool, true, false, cond}
+use mathlib.Core.Bool.{cond}
 use mathlib.Core.Path.{_≡_, refl, sym, ap, ap₂, _∙_}
 use mathlib.Core.List.{List, [], _∷_, _++_}
 use Prim.Native.Nat.{ℕ, zero, suc, _+_, _-_, _*_, _/_, _≤_, _<_}
@@ -11,7 +11,7 @@ use borrow.Author.Tests.{eq-eqb, ne-eqb}
 use lib.Bits.{bitXor, xor-zero-r}
 use lib.Dec.{eqb}
 use lib.ListN.{length, getD, set, take, drop, drop-of-length-le, length-set, length-drop, take-append-drop}
-use lib.Seq.{getD-set-same, getD-set-other, ext-getD, drop-cons, drop-drop, length-take-le}
+use lib.Seq.{getD-set-same, getD-set-other, drop-cons, length-take-le}
 use Rattle.word.specs.Bytes.{weight, xorWord, xorAt, xorFrom, window, fromBytes}
 use Rattle.word.proofs.Arrays.{listed, listed-same, written-out}
 use Rattle.word.proofs.Bytes.{xor-assoc, Bytes, part-bytes, window-word}

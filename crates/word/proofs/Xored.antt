@@ -5,13 +5,13 @@ use mathlib.Core.Bool.{Bool, true, false, cond}
 use mathlib.Core.Path.{_≡_, refl, sym, ap, _∙_}
 use mathlib.Core.Logic.{_≢_}
 use mathlib.Core.List.{List, [], _∷_}
-use Prim.Native.Nat.{ℕ, zero, suc, _+_, _*_, _-_, _^_, _/_, _%_, _<_, _≤_}
+use Prim.Native.Nat.{ℕ, suc, _+_, _*_, _-_, _^_, _/_, _%_, _<_, _≤_}
 use native.Mathlib.Omega.{arith}
 use native.Mathlib.Nat.{mod-eq-of-lt, div-eq-of-lt, mul-mod-left, mul-assoc, lt-of-lt-of-le, sub-zero}
 use borrow.Author.Tests.{eqb-true, eqb-false, ne-eqb, ltb-true, ltb-false, le-leb, lt-leb}
 use lib.Bits.{bitXor, xor-shr, xor-mod, xor-zero-r}
 use lib.Dec.{eqb, leb, ltb}
-use lib.ListN.{length, getD, set, length-set}
+use lib.ListN.{length, getD, length-set}
 use lib.Pow.{pow-mono, pow-add, shl-lt, shl-shr}
 use lib.Seq.{getD-set-same, getD-set-other}
 use Rattle.word.specs.Bytes.{weight, byteAt, xorWord, xorAt, xorFrom}

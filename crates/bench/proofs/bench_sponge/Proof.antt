@@ -1,19 +1,18 @@
 -- `bench::bench_sponge` meets its contract: by the theorem on streaming the cuts make no difference.
 -- Assumes nothing.
 use mathlib.Core.Path.{_≡_, refl, sym, ap, ap₂, _∙_}
-use mathlib.Core.List.{List, [], _∷_, _++_, append-nil}
+use mathlib.Core.List.{List, _++_, append-nil}
 use Prim.Native.Nat.{ℕ, _+_, _-_, _^_, _<_, min}
 use native.Mathlib.Omega.{arith}
 use lib.ListN.{length, take, drop, take-append-drop}
 use Rattle.sponge.specs.declared.mode.Mode.{Mode}
-use Rattle.sponge.specs.declared.mode.Named.{Named}
 use Rattle.sponge.specs.declared.mode.Named.the-variants.{Is, NoMode}
 use Rattle.sponge.specs.Mode.{row, named}
 use Rattle.sponge.specs.Sponge.{start, oneShot, runsEnded}
 use Rattle.sponge.specs.Record.{fresh, finished}
 use Rattle.sponge.specs.Streaming.{joined, total, absorbedParts, nextParts, squeezedParts}
 use Rattle.sponge.proofs.Streaming.{runs-fit, streaming-calls}
-use Rattle.bench.specs.Sponge.{partsAt, countsAt, spongeRuns, spongeOut}
+use Rattle.bench.specs.Sponge.{partsAt, countsAt}
 use borrow.Author.Needs.{needs}
 use Rattle.bench.proofs.bench_sponge.Statement.{statement}
 use Rattle.bench.proofs.bench_sponge.Tie as tie

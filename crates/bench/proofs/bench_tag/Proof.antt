@@ -1,12 +1,11 @@
 -- `bench::bench_tag` meets its contract: the block that is drawn from when feeding has ended is the MAC.
 -- Assumes nothing.
-use mathlib.Core.Bool.{Bool, true, false, cond}
+use mathlib.Core.Bool.{Bool, cond}
 use mathlib.Core.Path.{_≡_, sym, ap, _∙_}
 use mathlib.Core.List.{List}
 use Prim.Native.Nat.{ℕ}
 use lib.ListN.{length, take}
 use Rattle.sponge.specs.declared.mode.Mode.the-variants.{Mac}
-use Rattle.sponge.specs.declared.record.Record.{Record}
 use Rattle.sponge.specs.Mode.{row}
 use Rattle.sponge.specs.Sponge.{oneShot}
 use Rattle.sponge.specs.Record.{same, fresh, absorbed, finished, tagMatches}

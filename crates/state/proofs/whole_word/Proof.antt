@@ -1,6 +1,5 @@
 -- `state::whole_word` meets its contract.
 -- Assumes nothing.
-use Prim.Native.Nat.{_%_}
 use borrow.Author.Tests.{eq-eqb, ne-eqb}
 use Rattle.state.proofs.whole_word.Statement.{statement}
 use Rattle.state.proofs.whole_word.Tie as tie

@@ -1,7 +1,7 @@
 -- `state::window` meets its contract: none of the bytes stands in the word, all eight of the word are there, or some.
 -- Assumes nothing.
 use mathlib.Core.Path.{_≡_, sym, ap, _∙_}
-use Prim.Native.Nat.{ℕ, _*_, _/_}
+use Prim.Native.Nat.{_*_, _/_}
 use native.Mathlib.Omega.{arith}
 use Rattle.word.specs.Bytes.{window}
 use Rattle.word.proofs.Bytes.{Bytes}

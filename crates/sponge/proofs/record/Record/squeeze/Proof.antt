@@ -1,7 +1,6 @@
 -- `sponge::Record::squeeze` meets its contract. What is left of the present block is written before the loop; the loop's invariant is `Squeezing`.
 -- Assumes nothing.
 use mathlib.Core.Path.{_≡_, sym, ap, ap₂, _∙_}
-use mathlib.Core.List.{List}
 use Prim.Native.Nat.{ℕ, _+_, _-_, _%_, _^_, _≤_, _<_, min}
 use native.Mathlib.Omega.{arith}
 use borrow.Author.Needs.{needs}
