@@ -15,7 +15,7 @@ static uint8_t out[32];
 static uint64_t runs;
 
 /* The message in one part, and the output too. */
-static void proved_hash(size_t length) { runs = bench_sponge(0, 0, message, length, out, 32, HASH, length, 32); }
+static void proved_hash(size_t length) { runs = bench_sponge(key, 0, message, length, out, 32, HASH, length, 32); }
 static void plain_hash_of(size_t length) { runs = plain_hash(message, length, out); }
 static void proved_mac(size_t length) { runs = bench_sponge(key, 16, message, length, out, 16, MAC, length, 16); }
 static void plain_mac_of(size_t length) { runs = plain_mac(key, message, length, out); }

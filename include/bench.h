@@ -1,7 +1,7 @@
 /* The Ascon permutation and sponge for the test bench: the C functions of target/staticlib/libbench.a, which `rt staticlib bench` writes.
  *
  * All are proved against the definitions of crates/permutation/specs and crates/sponge/specs. They keep nothing between calls and allocate nothing.
- * C is trusted to hand over valid buffers of the lengths that it names, of which the one written to overlaps no other. */
+ * C is trusted to hand over valid buffers of the lengths that it names, of which the one written to overlaps no other. No pointer is null, not even to no bytes. */
 #ifndef BENCH_H
 #define BENCH_H
 

@@ -19,7 +19,7 @@ use Rattle.sponge.specs.declared.record.Record.{Record}
 use Rattle.sponge.specs.Mode.{Row}
 use Rattle.sponge.specs.Record.{afterRun, runIf, inWords, feedBytes, ready, drawnBytes, afterDrawing}
 use Rattle.sponge.specs.Parts.{filled, used}
-use Rattle.sponge.proofs.Places.{next-place, first-place, last-place, block-end}
+use Rattle.sponge.proofs.Places.{next-place, first-place, block-end}
 use Rattle.sponge.proofs.Feeding.{feedBytes-append, feed-part}
 use Rattle.sponge.proofs.Drawing.{drawnBytes-add, afterDrawing-add}
 
@@ -119,11 +119,6 @@ module _ (w : Row) (pos : 0 < w .drawRate) where
   pub used-within : (d : ℕ) → used w d ≤ w .drawRate
   used-within zero = rw used-first (omega arith)
   used-within (suc d) = rw used-next (mod-lt d pos)
-
-  -- a block is drawn up to its end
-  pub used-at-end : (d : ℕ) → d ≢ 0 → d % w .drawRate ≡ 0 → used w d ≡ w .drawRate
-  used-at-end zero ne e = absurd (ne refl)
-  used-at-end (suc d) ne e = used-next d ∙ last-place (w .drawRate) pos d e
 
 -- ---- squeezing: what is written of n bytes, and the record reached, once some are drawn from r
 
