@@ -3,14 +3,16 @@
 use mathlib.Core.Bool.{Bool, true, false, cond}
 use mathlib.Core.Path.{_≡_, sym, ap, ap₂, _∙_}
 use mathlib.Core.List.{List, [], _++_}
-use Prim.Native.Nat.{ℕ, _+_, _%_, _^_, _<_}
+use Prim.Native.Nat.{ℕ, _+_, _%_, _^_, _≤_, _<_}
 use lib.ListN.{length, length-append}
+use Rattle.word.specs.Bytes.{bytesFrom}
 use Rattle.sponge.specs.declared.mode.Mode.{Mode}
 use Rattle.sponge.specs.declared.record.Record.{Record}
 use Rattle.sponge.specs.Mode.{Row, row}
-use Rattle.sponge.specs.Record.{sum64, withFed, withDrawn, withFeeding, feedBytes, endFeeding, drawnBytes, afterDrawing, absorbed, finished, nextBytes, squeezed}
+use Rattle.sponge.specs.Record.{sum64, withFed, withDrawn, withFeeding, feedBytes, endFeeding, drawnBytes, afterDrawing, absorbed, finished, nextBytes, squeezed, block}
 use Rattle.sponge.proofs.Modes.{rates}
 use Rattle.sponge.proofs.Feeding.{sum64-sum64, sum64-fits, sum64-zero, withCoreOf, feedBytes-core, feedBytes-place, feedBytes-append, endFeeding-core, endFeeding-place}
+use Rattle.sponge.proofs.Parts.{first-block-drawn}
 use Rattle.sponge.proofs.Drawing.{length-drawnBytes, drawnBytes-core, drawnBytes-add, afterDrawing-core, afterDrawing-add}
 
 -- a length that may have wrapped has the right place
@@ -128,3 +130,16 @@ squeezed-add a b r h =
 
     same-core : afterDrawing w (r .drawn) (a + b) r ≡ afterDrawing w d b x
     same-core = afterDrawing-add w a b (r .drawn) r ∙ ap (λ (n : ℕ). afterDrawing w n b x) (sym (sum64-fits (r .drawn) a h))
+
+-- feeding that has ended is not ended again, whatever is drawn in between
+pub finished-again : (k : ℕ) (r : Record) → r .feeding ≡ false → finished (squeezed k r) ≡ squeezed k r
+unfolding finished
+finished-again k r e = rw (squeezed-is k r) (rw e)
+
+-- the first block stays as long as no byte beyond it is drawn
+pub block-stays : (d : ℕ) (r : Record) → r .drawn ≡ 0 → d ≤ row (r .mode) .drawRate → block (squeezed d r) ≡ block r
+unfolding block
+block-stays d r e h =
+    ap block (squeezed-is d r)
+    ∙ ap (λ (x : Record). bytesFrom 0 (row (r .mode) .drawRate) (x .words))
+    (ap (λ (n : ℕ). afterDrawing (row (r .mode)) n d r) e ∙ first-block-drawn (row (r .mode)) (rates (r .mode) .draws) d r h)

@@ -92,6 +92,12 @@ module _ (w : Row) (pos : 0 < w .drawRate) where
       let next : suc d % w .drawRate ≡ suc p = suc-mod d (w .drawRate) ∙ rw e (mod-eq-of-lt (omega arith)) in
       after-part k (suc d) (suc p) (ready w d r) next (omega arith) ∙ ready-within (suc d) (ready w d r) (λ z. omega arith)
 
+  -- bytes of the first block
+  pub first-block-drawn : (k : ℕ) (r : Record) → k ≤ w .drawRate → afterDrawing w 0 k r ≡ r
+  unfolding afterDrawing
+  first-block-drawn zero r h = refl
+  first-block-drawn (suc k) r h = after-part k 0 0 r (zero-mod (w .drawRate)) (omega arith) ∙ ready-first 0 r refl
+
   used-first : used w 0 ≡ 0
   unfolding used
   used-first = refl

@@ -4,24 +4,24 @@
 use mathlib.Core.Bool.{false}
 use mathlib.Core.Path.{_≡_, refl, sym, ap, _∙_}
 use mathlib.Core.List.{List, [], _∷_}
-use Prim.Native.Nat.{ℕ, _+_, _-_, _/_, _^_, _<_}
+use Prim.Native.Nat.{ℕ, _+_, _-_, _/_, _^_, _≤_, _<_}
 use native.Mathlib.Omega.{arith}
 use native.Mathlib.Nat.{zero-add, zero-div, zero-mod, le-refl}
-use lib.ListN.{length, drop}
+use lib.ListN.{length, take, drop}
 use Rattle.sponge.specs.declared.mode.Mode.{Mode}
 use Rattle.sponge.specs.declared.mode.Mode.the-variants.{Prf, Mac, Hash, Xof}
 use Rattle.sponge.specs.declared.record.Record.{Record}
 use Rattle.sponge.specs.Mode.{Row, row}
 use Rattle.sponge.specs.Sponge.{ceiling, start, absorbMessage, output, oneShot, runsFeeding, runsEnded}
 use Rattle.sponge.specs.Record.{sum64, withCore, withFed, withDrawn, withFeeding, afterRun, feedBytes, endFeeding, drawnBytes, afterDrawing, fresh, absorbed}
-use Rattle.sponge.specs.Record.{finished, nextBytes, squeezed, block}
-use Rattle.sponge.specs.Streaming.{joined, total, feedParts, drawnParts, afterParts, Streaming, absorbedParts, nextParts, squeezedParts, StreamingCalls}
+use Rattle.sponge.specs.Record.{finished, nextBytes, squeezed, block, same, tagMatches}
+use Rattle.sponge.specs.Streaming.{joined, total, feedParts, drawnParts, afterParts, StreamingTheorem, absorbedParts, nextParts, squeezedParts, StreamingCallsTheorem}
 use Rattle.sponge.proofs.Feeding.{sum64-lt, sum64-sum64, sum64-fits, sum64-zero, withCoreOf, feedBytes-append, feeding-ended, feeding-counted}
 use Rattle.sponge.proofs.Drawing.{drawnBytes-core, drawnBytes-add, afterDrawing-core, afterDrawing-add, afterRuns, afterRuns-zero, afterDrawing-runs}
 use Rattle.sponge.proofs.Drawing.{drawnBytes-squeezed, blocks-drawn}
 use Rattle.sponge.proofs.Modes.{rates}
 use Rattle.sponge.proofs.Parts.{ready-first, block-drawn}
-use Rattle.sponge.proofs.Calls.{absorbed-none, absorbed-append, finished-is, nextBytes-is, nextBytes-add, squeezed-is, squeezed-add}
+use Rattle.sponge.proofs.Calls.{absorbed-none, absorbed-append, finished-is, nextBytes-is, nextBytes-add, squeezed-is, squeezed-add, block-stays}
 
 -- ---- parts, joined, at any row
 
@@ -72,7 +72,7 @@ module _ (w : Row) (feeds : 0 < w .feedRate) (draws : 0 < w .drawRate) (r : Reco
       (sum64-fits _ _ (omega (arith, blocks-drawn w draws d)) ∙ omega arith)
 
 -- the theorem, over any row
-pub streaming : (w : Row) → 0 < w .feedRate → 0 < w .drawRate → (r : Record) (parts : List (List ℕ)) (counts : List ℕ) → Streaming w r parts counts
+pub streaming : StreamingTheorem
 unfolding afterDrawing
 streaming w feeds draws r parts counts = record {
   feeding-runs = rw (parts-fed w parts 0 r) (steps-feeding-runs w feeds draws r (joined parts));
@@ -151,6 +151,14 @@ module _ (ticket : ℕ) (mode : Mode) (key m : List ℕ) where
       draws : 0 < row mode .drawRate
       draws = rates mode .draws
 
+  -- it stays so as long as no more than a block is drawn, and a tag is judged by it
+  pub calls-verdict : (tag : List ℕ) (d : ℕ) → d ≤ row mode .drawRate
+      → tagMatches tag (squeezed d (finished (absorbed m (fresh ticket mode key)))) ≡ same tag (take (length tag) (oneShot (row mode) key m (row mode .drawRate)))
+  unfolding tagMatches others fresh afterRun
+  calls-verdict tag d h =
+      ap (λ (b : List ℕ). same tag (take (length tag) b))
+      (block-stays d (finished (absorbed m (fresh ticket mode key))) (rw finished-whole refl) (rw finished-whole h) ∙ calls-block)
+
   -- the runs once feeding has ended
   pub calls-ended-runs : (d : ℕ) → runsEnded (row mode) (start (row mode) key .runs) (length m) d < 2 ^ 64
       → squeezed d (finished (absorbed m (fresh ticket mode key))) .runs ≡ runsEnded (row mode) (start (row mode) key .runs) (length m) d
@@ -170,12 +178,15 @@ runs-fit Hash n d hn hd = omega arith
 runs-fit Xof n d hn hd = omega arith
 
 -- the theorem, for the calls
-pub streaming-calls : (ticket : ℕ) (mode : Mode) (key : List ℕ) (parts : List (List ℕ)) (counts : List ℕ) → StreamingCalls ticket mode key parts counts
+pub streaming-calls : StreamingCallsTheorem
 unfolding others fresh afterRun
 streaming-calls ticket mode key parts counts = record {
   feeding-runs = rw fed-parts (calls-feeding-runs ticket mode key m);
   bytes = λ few. rw (fed-parts, parts-next counts end (rw undrawn few)) (calls-all-bytes ticket mode key m (total counts));
   ended-runs = λ few fits. rw (fed-parts, parts-squeezed counts end (rw undrawn few)) (calls-ended-runs ticket mode key m (total counts) fits);
+  verdict = λ tag few.
+      rw (fed-parts, parts-squeezed counts end (rw undrawn (omega (arith, few, rates mode .draws-inside))))
+      (calls-verdict ticket mode key m tag (total counts) few);
 }
   where
     m : List ℕ

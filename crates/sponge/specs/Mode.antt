@@ -37,3 +37,8 @@ numberOf Xof = 4
 -- the mode that a number names: one that is not 1 to 4 names none
 unfoldable pub named : ℕ → Named
 named n = cond (eqb n 1) (Is Prf) (cond (eqb n 2) (Is Mac) (cond (eqb n 3) (Is Hash) (cond (eqb n 4) (Is Xof) NoMode)))
+
+-- the number that such an answer stands for: the mode's, or 0
+abbrev pub numberNamed : Named → ℕ
+numberNamed (Is mode) = numberOf mode
+numberNamed NoMode = 0

@@ -1,5 +1,6 @@
 -- What is done to a record, byte by byte: document 01's record of a ticket, a sponge that is not done yet. The row of its mode is a parameter of each step.
--- Counts and lengths are 64-bit numbers: on a record that no call made they may wrap, and the definitions say where.
+-- Counts and lengths are 64-bit numbers and wrap where `sum64` says so: nothing here limits how much is fed or drawn. A record that has had 2 ^ 64 bytes drawn
+-- is told by its count as one that has had none drawn, and no run is made before its next byte.
 -- Assumes nothing.
 use mathlib.Core.Bool.{Bool, true, false, cond, not, _&&_, decide}
 use mathlib.Core.List.{List, [], _∷_, List-discrete}
@@ -23,7 +24,7 @@ sum64 a b = (a + b) % 2 ^ 64
 unfoldable pub same : List ℕ → List ℕ → Bool
 same xs ys = decide (List-discrete ℕ-discrete xs ys)
 
--- ---- a record with other fields; a field that the record gets later is added here, in `vacant` and in `fresh`
+-- ---- a record with other fields: with `vacant` and `fresh`, the only places that name them all
 
 abbrev pub withCore : List ℕ → ℕ → Record → Record
 withCore words runs r =

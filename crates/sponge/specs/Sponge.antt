@@ -47,7 +47,8 @@ blocks R bs = cut (length bs / R) R bs
 unfoldable pub flipIf : Bool → List ℕ → List ℕ
 flipIf flips s = cond flips (xorWord 4 1 s) s
 
--- each block is xored into the first R state bytes and a run follows; the flip comes before the run of the last block, and of no other
+-- each block is xored into the first R state bytes and a run follows; the flip comes before the run of the last block, and of no other. A padded message has a
+-- block at least, so that the first clause is never used
 unfoldable pub absorbBlocks : Row → List (List ℕ) → List ℕ → List ℕ
 absorbBlocks w [] s = s
 absorbBlocks w (b ∷ []) s = run (flipIf (w .flips) (xorFrom 0 b s))

@@ -3,13 +3,13 @@
 -- Assumes nothing.
 use mathlib.Core.Path.{_≡_}
 use mathlib.Core.List.{List, [], _∷_, _++_}
-use Prim.Native.Nat.{ℕ, _+_, _^_, _<_}
-use lib.ListN.{length}
+use Prim.Native.Nat.{ℕ, _+_, _^_, _≤_, _<_}
+use lib.ListN.{length, take}
 use Rattle.sponge.specs.declared.mode.Mode.{Mode}
 use Rattle.sponge.specs.declared.record.Record.{Record}
 use Rattle.sponge.specs.Mode.{Row, row}
 use Rattle.sponge.specs.Sponge.{start, output, oneShot, runsFeeding, runsEnded}
-use Rattle.sponge.specs.Record.{feedBytes, endFeeding, drawnBytes, afterDrawing, fresh, absorbed, finished, nextBytes, squeezed}
+use Rattle.sponge.specs.Record.{feedBytes, endFeeding, drawnBytes, afterDrawing, fresh, absorbed, finished, nextBytes, squeezed, same, tagMatches}
 
 -- the parts of a message, joined
 abbrev pub joined : List (List ℕ) → List ℕ
@@ -48,6 +48,11 @@ pub record Streaming (w : Row) (r : Record) (parts : List (List ℕ)) (counts : 
   pub ended-runs : runsEnded w (r .runs) (length (joined parts)) (total counts) < 2 ^ 64
       → afterParts w 0 counts (endFeeding w (length (joined parts)) (feedParts w 0 parts r)) .runs ≡ runsEnded w (r .runs) (length (joined parts)) (total counts)
 
+-- The theorem on streaming: so it is for every row with rates above 0, every record, every split of a message and all counts.
+abbrev pub StreamingTheorem : Type 0
+StreamingTheorem =
+    (w : Row) → 0 < w .feedRate → 0 < w .drawRate → (r : Record) (parts : List (List ℕ)) (counts : List ℕ) → Streaming w r parts counts
+
 -- ---- the calls, by the definitions that their promises cite
 
 -- absorb, called for one part after the other
@@ -64,7 +69,8 @@ unfoldable pub squeezedParts : List ℕ → Record → Record
 squeezedParts [] r = r
 squeezedParts (k ∷ ks) r = squeezedParts ks (squeezed k r)
 
--- A fresh record of a mode under a key is fed a message in these parts, finished, and squeezed for these counts, fewer than 2 ^ 64 bytes in all.
+-- A fresh record of a mode under a key is fed a message in these parts, finished, and squeezed for these counts. Nothing is asked of the message; of the output
+-- fewer than 2 ^ 64 bytes are drawn.
 pub record StreamingCalls (ticket : ℕ) (mode : Mode) (key : List ℕ) (parts : List (List ℕ)) (counts : List ℕ) : Type 0 where
   pub feeding-runs : runsFeeding (row mode) (start (row mode) key .runs) (length (joined parts)) < 2 ^ 64
       → absorbedParts parts (fresh ticket mode key) .runs ≡ runsFeeding (row mode) (start (row mode) key .runs) (length (joined parts))
@@ -74,3 +80,12 @@ pub record StreamingCalls (ticket : ℕ) (mode : Mode) (key : List ℕ) (parts :
       → runsEnded (row mode) (start (row mode) key .runs) (length (joined parts)) (total counts) < 2 ^ 64
       → squeezedParts counts (finished (absorbedParts parts (fresh ticket mode key))) .runs
       ≡ runsEnded (row mode) (start (row mode) key .runs) (length (joined parts)) (total counts)
+  -- as long as no more than a block is drawn, a tag is judged by the first bytes of the one-shot output
+  pub verdict : (tag : List ℕ) → total counts ≤ row mode .drawRate
+      → tagMatches tag (squeezedParts counts (finished (absorbedParts parts (fresh ticket mode key))))
+      ≡ same tag (take (length tag) (oneShot (row mode) key (joined parts) (row mode .drawRate)))
+
+-- The theorem on streaming, for the calls: so it is for every ticket, mode and key, every split of a message and all counts.
+abbrev pub StreamingCallsTheorem : Type 0
+StreamingCallsTheorem =
+    (ticket : ℕ) (mode : Mode) (key : List ℕ) (parts : List (List ℕ)) (counts : List ℕ) → StreamingCalls ticket mode key parts counts

@@ -34,6 +34,8 @@ unfoldable pub xorFrom : ℕ → List ℕ → List ℕ → List ℕ
 xorFrom k [] ws = ws
 xorFrom k (b ∷ bs) ws = xorFrom (suc k) bs (xorAt k b ws)
 
+-- ---- bytes as numbers: ways to say the same that code goes by
+
 -- the number that bytes make in word j, if the first of them stands at byte k
 unfoldable pub window : ℕ → List ℕ → ℕ → ℕ
 window k [] j = 0
