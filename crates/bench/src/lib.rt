@@ -53,8 +53,9 @@ fn squeeze_in_two(s: Record, out: &mut [u8], first: usize) -> Record
     begun.squeeze(&mut out[middle..])
 }
 
-// The output of a mode for a message, as much as is lent; the answer is how many runs were made. The message is fed and the output drawn in two parts.
-// A number that is no mode is answered 0, and nothing is written.
+// The output of a mode for a message, as much as is lent, with no limit; the answer is how many runs were made. The message is fed and the output drawn in two
+// parts, so that tests try splits; by the theorem on streaming the cuts make no difference, and the promise does not name them. A key of another length than
+// the mode's is cut, or filled with zeros. A number that is no mode is answered 0, and nothing is written.
 #[no_mangle]
 pub extern "C" fn bench_sponge(
     key: &[u8],

@@ -11,7 +11,8 @@ use Rattle.sponge.specs.declared.record.Record.{Record}
 use Rattle.sponge.specs.Mode.{Row, row}
 use Rattle.sponge.specs.Record.{sum64, withFed, withDrawn, withFeeding, feedBytes, endFeeding, drawnBytes, afterDrawing, absorbed, finished, nextBytes, squeezed, block}
 use Rattle.sponge.proofs.Modes.{rates}
-use Rattle.sponge.proofs.Feeding.{sum64-sum64, sum64-fits, sum64-zero, withCoreOf, feedBytes-core, feedBytes-place, feedBytes-append, endFeeding-core, endFeeding-place}
+use Rattle.sponge.proofs.Core.{sum64-sum64, sum64-fits, sum64-zero, withCoreOf}
+use Rattle.sponge.proofs.Feeding.{feedBytes-core, feedBytes-place, feedBytes-append, endFeeding-core, endFeeding-place}
 use Rattle.sponge.proofs.Parts.{first-block-drawn}
 use Rattle.sponge.proofs.Drawing.{length-drawnBytes, drawnBytes-core, drawnBytes-add, afterDrawing-core, afterDrawing-add}
 

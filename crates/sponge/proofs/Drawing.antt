@@ -19,8 +19,8 @@ use Rattle.sponge.specs.declared.record.Record.{Record}
 use Rattle.sponge.specs.Mode.{Row}
 use Rattle.sponge.specs.Sponge.{ceiling, squeezeBlocks, squeezeBytes}
 use Rattle.sponge.specs.Record.{sum64, withCore, afterRun, runIf, ready, drawnBytes, afterDrawing}
-use Rattle.sponge.proofs.Places.{next-block, same-block}
-use Rattle.sponge.proofs.Feeding.{sum64-sum64, sum64-zero, withCoreOf, runIf-core}
+use Rattle.sponge.proofs.Places.{suc-less, next-block, same-block}
+use Rattle.sponge.proofs.Core.{sum64-sum64, sum64-zero, withCoreOf, runIf-core}
 
 -- ---- what a step reads and changes, and one count after another, at any row
 
@@ -126,9 +126,6 @@ unfoldable pub outputByte : Row → List ℕ → ℕ → ℕ
 outputByte w s i = byteAt (runTimes (i / w .drawRate) s) (i % w .drawRate)
 
 -- ---- drawing block by block
-
-suc-less : (d : ℕ) → suc d - 1 ≡ d
-suc-less d = omega arith
 
 module _ (w : Row) (pos : 0 < w .drawRate) where
   -- after the runs that d bytes drawn have left behind, byte number d is made ready: its block stands in the words

@@ -7,7 +7,7 @@ use mathlib.Core.List.{List, [], _∷_, _++_, append-assoc}
 use Prim.Native.Nat.{ℕ, zero, suc, _+_, _*_, _/_, _%_, _^_, _<_, _≤_}
 use native.Mathlib.Omega.{arith}
 use native.Mathlib.Numerals.{add-one}
-use native.Mathlib.Nat.{le-refl, zero-add, add-zero, suc-add, add-suc, add-assoc, one-mul, zero-mod, mod-lt, mod-mod, mod-eq-of-lt, mod-add-mod, suc-mod}
+use native.Mathlib.Nat.{le-refl, zero-add, add-zero, suc-add, add-suc, add-assoc, one-mul, zero-mod, mod-lt, mod-mod, mod-eq-of-lt, suc-mod}
 use native.Mathlib.Nat.{add-mod, add-mod-left, add-mod-right, div-self, div-eq-of-lt, div-add-mod', add-div-left, mul-div-cancel}
 use lib.Dec.{eqb, ltb}
 use lib.ListN.{length, take, drop, length-append, length-replicate, length-drop, take-append-drop}
@@ -19,38 +19,12 @@ use Rattle.permutation.specs.Permutation.{run}
 use Rattle.sponge.specs.declared.record.Record.{Record}
 use Rattle.sponge.specs.Mode.{Row}
 use Rattle.sponge.specs.Sponge.{pad, cut, blocks, flipIf, absorbBlocks, absorbMessage}
+use Rattle.sponge.proofs.Core.{sum64-lt, sum64-sum64, sum64-zero, withCoreOf, runIf-core}
 use Rattle.sponge.specs.Record.{sum64, withCore, withFeeding, inWords, afterRun, runIf, feedByte, feedBytes, endFeeding}
 
--- ---- sums of 64 bits
+-- ---- what feeding reads and changes, at any row
 
-pub sum64-lt : (a b : ℕ) → sum64 a b < 2 ^ 64
-unfolding sum64
-sum64-lt a b = mod-lt (a + b) (omega arith)
-
-pub sum64-sum64 : (a b c : ℕ) → sum64 (sum64 a b) c ≡ sum64 a (b + c)
-unfolding sum64
-sum64-sum64 a b c = mod-add-mod (a + b) (2 ^ 64) c ∙ rw add-assoc
-
-pub sum64-fits : (a b : ℕ) → a + b < 2 ^ 64 → sum64 a b ≡ a + b
-unfolding sum64
-sum64-fits a b h = mod-eq-of-lt h
-
-pub sum64-zero : (a : ℕ) → a < 2 ^ 64 → sum64 a 0 ≡ a
-sum64-zero a h = sum64-fits a 0 (omega arith) ∙ add-zero a
-
--- ---- what a step reads and changes, at any row
-
--- x with the words and the runs of y
-abbrev pub withCoreOf : Record → Record → Record
-withCoreOf y x = withCore (y .words) (y .runs) x
-
--- a run reads and changes the words and the runs of a record, and nothing else: x has the other fields
-pub runIf-core : (due : Bool) (r x : Record) → runIf due (withCoreOf r x) ≡ withCoreOf (runIf due r) x
-unfolding runIf afterRun
-runIf-core true r x = refl
-runIf-core false r x = refl
-
--- so does feeding
+-- the words and the runs of a record, and nothing else: x has the other fields
 pub feedBytes-core : (w : Row) (bs : List ℕ) (n : ℕ) (r x : Record) → feedBytes w n bs (withCoreOf r x) ≡ withCoreOf (feedBytes w n bs r) x
 unfolding feedBytes feedByte inWords
 feedBytes-core w [] n r x = refl

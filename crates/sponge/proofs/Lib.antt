@@ -1,5 +1,6 @@
 pub mod Modes
 pub mod Places
+pub mod Core
 pub mod Feeding
 pub mod Drawing
 pub mod Parts
@@ -7,3 +8,4 @@ pub mod Tags
 pub mod Calls
 pub mod Streaming
 pub mod Examples
+pub mod Initial

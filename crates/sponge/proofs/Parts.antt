@@ -19,7 +19,7 @@ use Rattle.sponge.specs.declared.record.Record.{Record}
 use Rattle.sponge.specs.Mode.{Row}
 use Rattle.sponge.specs.Record.{afterRun, runIf, inWords, feedBytes, ready, drawnBytes, afterDrawing}
 use Rattle.sponge.specs.Parts.{filled, used}
-use Rattle.sponge.proofs.Places.{next-place, first-place, block-end}
+use Rattle.sponge.proofs.Places.{suc-less, next-place, first-place, block-end}
 use Rattle.sponge.proofs.Feeding.{feedBytes-append, feed-part}
 use Rattle.sponge.proofs.Drawing.{drawnBytes-add, afterDrawing-add}
 
@@ -104,9 +104,7 @@ module _ (w : Row) (pos : 0 < w .drawRate) where
 
   used-next : (d : ℕ) → used w (suc d) ≡ suc (d % w .drawRate)
   unfolding used
-  used-next d =
-      let before : suc d - 1 ≡ d = omega arith in
-      rw (ne-eqb (suc d) 0 (λ z. omega arith), before, add-one)
+  used-next d = rw (ne-eqb (suc d) 0 (λ z. omega arith), suc-less d, add-one)
 
   -- all of the present block is drawn: a run is due, and the next byte is the first of its block
   pub used-up : (d : ℕ) → used w d ≡ w .drawRate → (d ≢ 0) × (d % w .drawRate ≡ 0)

@@ -7,6 +7,9 @@ use native.Mathlib.Nat.{suc-mod, mod-eq-of-lt, mod-lt, mod-self, mul-mod-left, d
 use native.Mathlib.Decide.{decLt}
 use native.Mathlib.Omega.{arith}
 
+pub suc-less : (n : ℕ) → suc n - 1 ≡ n
+suc-less n = omega arith
+
 module _ (R : ℕ) (pos : 0 < R) where
   -- the next number stands one place further, or at the first place after the last
   pub next-place : (n : ℕ) → suc (n % R) < R → suc n % R ≡ suc (n % R)

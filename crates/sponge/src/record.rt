@@ -23,6 +23,9 @@ pub struct Record {
 }
 
 impl Record {
+    // The byte of the state at which the key begins: the one after the start word.
+    pub const KEY_PLACE: u32 = 8;
+
     // A place that no ticket has. Nothing of a state is in it.
     pub fn vacant() -> Record
         ensures { λ r. ⌜ r ≡ spec.vacant ⌝ }
@@ -43,10 +46,10 @@ impl Record {
         ensures { λ r. ⌜ r ≡ spec.fresh ticket mode (now (key .entry)) ⌝ }
     {
         let length = state::shorter(mode.key_length(), key.len());
-        let start = [mode.start_word(), 0, 0, 0, 0];
-        let words = state::xor_bytes(start, 8, &key[..length]);
-        let initial = Record {
-            words: words,
+        let unkeyed = [mode.start_word(), 0, 0, 0, 0];
+        let initial = state::xor_bytes(unkeyed, Record::KEY_PLACE, &key[..length]);
+        let before = Record {
+            words: initial,
             runs: 0,
             ticket: ticket,
             mode: mode,
@@ -54,7 +57,7 @@ impl Record {
             drawn: 0,
             feeding: true,
         };
-        initial.run()
+        before.run()
     }
 
     // A run: the words after it, and the count one higher. Nothing else raises the count.

@@ -1,5 +1,6 @@
 // The state as bytes: bytes are xored into its five words and copied out of them, whole words at a time where that can be.
-// Every function is total: a word past the end reads 0 and is not written.
+// Every public function is total: a word past the end reads 0 and is not written. Where a slice goes from a place on, the place is a u32, so that the two
+// together never pass 2 ^ 64.
 ghost use mathlib.Core.Path.{_≡_};
 ghost use mathlib.Core.Bool.{_&&_};
 ghost use Prim.Native.Nat.{_+_, _-_, _/_, _%_, _^_, _≤_, _<_, min};

@@ -7,10 +7,10 @@ use mathlib.Core.Logic.{_≢_}
 use mathlib.Core.List.{List, [], _∷_}
 use Prim.Native.Nat.{ℕ, suc, _+_, _*_, _-_, _^_, _/_, _%_, _<_, _≤_}
 use native.Mathlib.Omega.{arith}
-use native.Mathlib.Nat.{mod-eq-of-lt, div-eq-of-lt, mul-mod-left, mul-assoc, lt-of-lt-of-le, sub-zero}
+use native.Mathlib.Nat.{mod-eq-of-lt, div-eq-of-lt, mul-mod-left, mul-assoc, lt-of-lt-of-le, sub-zero, div-one}
 use borrow.Author.Tests.{eqb-true, eqb-false, ne-eqb, ltb-true, ltb-false, le-leb, lt-leb}
 use lib.Bits.{bitXor, xor-shr, xor-mod, xor-zero-r}
-use lib.Dec.{eqb, leb, ltb}
+use lib.Dec.{eqb, leb, ltb, lit<}
 use lib.ListN.{length, getD, length-set}
 use lib.Pow.{pow-mono, pow-add, shl-lt, shl-shr}
 use lib.Seq.{getD-set-same, getD-set-other}
@@ -68,7 +68,7 @@ unfolding xorAt xorWord
 length-xorAt k b ws = length-set ws (k / 8) _
 
 -- byte m after bytes were xored into those from k on
-xored-from : (bs : List ℕ) (k m : ℕ) (ws : List ℕ) → k + length bs ≤ 8 * length ws → Bytes bs
+pub xored-from : (bs : List ℕ) (k m : ℕ) (ws : List ℕ) → k + length bs ≤ 8 * length ws → Bytes bs
     → byteAt (xorFrom k bs ws) m ≡ bitXor (byteAt ws m) (cond (leb k m) (getD bs (m - k) 0) 0)
 unfolding xorFrom
 xored-from [] k m ws l h = go (leb k m)
@@ -101,3 +101,17 @@ xored-from (b ∷ bs) k m ws l h =
 -- a block: each of its bytes is xored into the byte of its number, and no other byte changes
 pub xored-block : (bs ws : List ℕ) → length bs ≤ 8 * length ws → Bytes bs → (m : ℕ) → byteAt (xorFrom 0 bs ws) m ≡ bitXor (byteAt ws m) (getD bs m 0)
 xored-block bs ws l h m = xored-from bs 0 m ws (omega arith) h ∙ rw (le-leb 0 m (omega arith), sub-zero)
+
+-- byte 0 is the top byte of the first word, and byte 39 the low byte of the fifth
+pub first-byte : (ws : List ℕ) → byteAt ws 0 ≡ getD ws 0 0 / 2 ^ 56 % 256
+unfolding byteAt weight
+first-byte ws = refl
+
+pub last-byte : (ws : List ℕ) → byteAt ws 39 ≡ getD ws 4 0 % 256
+unfolding byteAt weight
+last-byte ws = rw div-one
+
+-- the lowest bit of the fifth word is that of byte 39
+pub flipped-byte : (ws : List ℕ) (m : ℕ) → length ws ≡ 5 → byteAt (xorWord 4 1 ws) m ≡ bitXor (byteAt ws m) (cond (eqb 39 m) 1 0)
+unfolding xorAt weight
+flipped-byte ws m e = xored-byte 39 1 m ws (omega arith) (lit< tt)

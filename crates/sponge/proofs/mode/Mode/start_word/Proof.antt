@@ -1,6 +1,8 @@
 -- `sponge::Mode::start_word` meets its contract, one row of the table after the other.
 -- Assumes nothing.
+use mathlib.Core.Path.{sym, ap}
 use borrow.Author.Needs.{needs}
+use Rattle.sponge.specs.declared.mode.Mode.{Mode}
 use Rattle.sponge.specs.Mode.{row}
 use Rattle.sponge.proofs.mode.Mode.start_word.Statement.{statement}
 use Rattle.sponge.proofs.mode.Mode.start_word.Tie as tie
@@ -19,19 +21,19 @@ enum-told-4 c = search needs
 
 returns : tie.Need-returns
 unfolding row
-returns c = rw (c .enum-told .given .1)
+returns c = sym (ap (λ (m : Mode). row m .startWord) (c .enum-told .given .1))
 
 returns-2 : tie.Need-returns-2
 unfolding row
-returns-2 c = rw (c .enum-told2 .given .1)
+returns-2 c = sym (ap (λ (m : Mode). row m .startWord) (c .enum-told2 .given .1))
 
 returns-3 : tie.Need-returns-3
 unfolding row
-returns-3 c = rw (c .enum-told3 .given .1)
+returns-3 c = sym (ap (λ (m : Mode). row m .startWord) (c .enum-told3 .given .1))
 
 returns-4 : tie.Need-returns-4
 unfolding row
-returns-4 c = rw (c .enum-told4 .given .1)
+returns-4 c = sym (ap (λ (m : Mode). row m .startWord) (c .enum-told4 .given .1))
 
 pub start-word-spec : {M : Type 1} → statement M
 start-word-spec =

@@ -2,7 +2,7 @@
 -- first record; and as long as some are left, the place is that of the next.
 -- Assumes nothing.
 use mathlib.Core.Path.{_≡_, refl, sym, ap, ap₂, _∙_}
-use Prim.Native.Nat.{ℕ, _+_, _-_, _%_, _≤_, _<_}
+use Prim.Native.Nat.{ℕ, _+_, _-_, _%_, _^_, _≤_, _<_}
 use native.Mathlib.Nat.{add-zero, mod-lt}
 use native.Mathlib.Omega.{arith}
 use borrow.Author.Needs.{needs}
@@ -106,7 +106,8 @@ returns : tie.Need-returns Inv-loop μ-loop
 unfolding absorbed feedBytes sum64
 returns c =
     let last = c .before .before .loop in
-    ap₂ withFed (c .wrapping-add-u64 .ensures) (rw (drop-of-length-le _ (c .before .loop-test .left)) at (last .inv .3))
+    let fed : c .wrapping-add-u64 .result ≡ (c .before .before .before .before .before .before .args .self .fed + length (c .before .before .before .before .before .before .args .bytes .now)) % 2 ^ 64 = c .wrapping-add-u64 .ensures in
+    ap₂ withFed fed (rw (drop-of-length-le _ (c .before .loop-test .left)) at (last .inv .3))
 
 pub absorb-spec : {M : Type 1} → statement M
 absorb-spec =

@@ -32,7 +32,7 @@ returns : tie.Need-returns
 unfolding filled runIf inWords
 returns c =
     let a = c .before .before .before .before .before .before .args in
-    let full : eqb (a .place + length (now (a .bytes))) (row (a .self .mode) .feedRate) ≡ true = eq-eqb _ _ (c .before .if1 .taken ∙ c .before .before .feed-rate .ensures) in
+    let full : eqb (a .place + length (now (a .bytes))) (row (a .self .mode) .feedRate) ≡ true = eq-eqb (a .place + length (now (a .bytes))) (row (a .self .mode) .feedRate) (omega (arith, c .before .before .feed-rate .ensures)) in
     rw (full, c .run .ensures, c .before .before .before .xor-part .ensures)
 
 returns-2 : tie.Need-returns-2
