@@ -1,5 +1,9 @@
 -- `sponge::Record::end_feeding` meets its contract.
 -- Assumes nothing.
+use mathlib.Core.Path.{_≡_, ap, _∙_}
+use Prim.Native.Nat.{ℕ, _%_}
+use Rattle.word.specs.Bytes.{xorAt}
+use Rattle.sponge.specs.Mode.{row}
 use Rattle.sponge.specs.Record.{afterRun, inWords, endFeeding}
 use borrow.Author.Needs.{needs}
 use Rattle.sponge.proofs.record.Record.end_feeding.Statement.{statement}
@@ -19,7 +23,11 @@ run-requires c κs = search needs
 
 returns : tie.Need-returns
 unfolding endFeeding afterRun inWords
-returns c = rw (c .run .ensures, c .before .flip .ensures, c .before .before .xor-byte .ensures, c .before .before .before .feed-place .ensures)
+returns c =
+    let r = c .before .before .before .before .before .args .self in
+    let padded : c .before .before .xor-byte .result ≡ xorAt (r .fed % row (r .mode) .feedRate) 0x80 (r .words) =
+    c .before .before .xor-byte .ensures ∙ ap (λ (k : ℕ). xorAt k 0x80 (r .words)) (c .before .before .before .feed-place .ensures) in
+    rw (c .run .ensures, c .before .flip .ensures, padded)
 
 pub end-feeding-spec : {M : Type 1} → statement M
 end-feeding-spec =

@@ -1,9 +1,12 @@
 -- `sponge::Record::fresh` meets its contract.
 -- Assumes nothing.
-use mathlib.Core.Path.{sym}
+use mathlib.Core.Path.{_≡_, sym}
+use mathlib.Core.List.{[], _∷_}
 use native.Mathlib.Omega.{arith}
 use denote.Ref.{now}
+use lib.ListN.{take}
 use lib.Seq.{length-take-le}
+use Rattle.word.specs.Bytes.{xorFrom}
 use Rattle.word.proofs.Lists.{take-min}
 use Rattle.sponge.specs.Mode.{row}
 use Rattle.sponge.specs.Sponge.{initial}
@@ -36,7 +39,9 @@ returns : tie.Need-returns
 unfolding fresh initial
 returns c =
     let a = c .before .before .before .before .before .before .before .args in
-    rw (c .run .ensures, c .before .xor-bytes .ensures, c .before .before .before .start-word .ensures, c .before .before .before .before .shorter .ensures, c .before .before .before .before .before .key-length .ensures, take-min (row (a .mode) .keyLength) (now (a .key)))
+    let keyed : c .before .xor-bytes .result ≡ xorFrom 8 (take (c .before .before .before .before .shorter .result) (now (a .key))) (c .before .before .before .start-word .result ∷ 0 ∷ 0 ∷ 0 ∷ 0 ∷ []) =
+    c .before .xor-bytes .ensures in
+    rw (c .run .ensures, keyed, c .before .before .before .start-word .ensures, c .before .before .before .before .shorter .ensures, c .before .before .before .before .before .key-length .ensures, take-min (row (a .mode) .keyLength) (now (a .key)))
 
 pub fresh-spec : {M : Type 1} → statement M
 fresh-spec =
