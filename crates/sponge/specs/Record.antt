@@ -46,7 +46,7 @@ withFeeding feeding r =
 unfoldable pub inWords : (List ℕ → List ℕ) → Record → Record
 inWords f r = withCore (f (r .words)) (r .runs) r
 
--- the run: the words after it, and the count one higher. Nothing else raises the count
+-- document 01's run: the words after it, and the count one higher. Nothing else raises the count
 unfoldable pub afterRun : Record → Record
 afterRun r = withCore (run (r .words)) (sum64 (r .runs) 1) r
 

@@ -1,6 +1,6 @@
 -- `sponge::Record::fill` meets its contract.
 -- Assumes nothing.
-use mathlib.Core.Path.{_≡_, sym, _∙_}
+use mathlib.Core.Path.{_≡_}
 use mathlib.Core.Bool.{true, false}
 use Prim.Native.Nat.{_+_}
 use native.Mathlib.Omega.{arith}
@@ -39,7 +39,7 @@ returns-2 : tie.Need-returns-2
 unfolding filled runIf inWords
 returns-2 c =
     let a = c .before .before .before .before .before .args in
-    let part : eqb (a .place + length (now (a .bytes))) (row (a .self .mode) .feedRate) ≡ false = ne-eqb _ _ (λ e. c .if1 .left (e ∙ sym (c .before .feed-rate .ensures))) in
+    let part : eqb (a .place + length (now (a .bytes))) (row (a .self .mode) .feedRate) ≡ false = ne-eqb (a .place + length (now (a .bytes))) (row (a .self .mode) .feedRate) (λ e. omega (arith, c .before .feed-rate .ensures)) in
     rw (part, c .before .before .xor-part .ensures)
 
 pub fill-spec : {M : Type 1} → statement M

@@ -12,7 +12,7 @@ use Rattle.sponge.proofs.record.squeeze.used_of_block.Tie as tie
 
 returns : tie.Need-returns
 unfolding used
-returns c = rw (eq-eqb _ 0 (c .if1 .taken))
+returns c = rw (eq-eqb (c .before .args .n) 0 (omega arith))
 
 sub-result : tie.Need-sub-result
 sub-result c = search needs
@@ -31,7 +31,7 @@ add-result c =
 
 returns-2 : tie.Need-returns-2
 unfolding used
-returns-2 c = rw (ne-eqb _ 0 (c .before .if1 .left), c .draw-rate .ensures)
+returns-2 c = rw (ne-eqb (c .before .before .args .n) 0 (λ e. omega arith), c .draw-rate .ensures)
 
 pub used-of-block-spec : {M : Type 1} → statement M
 used-of-block-spec =
