@@ -13,7 +13,8 @@ use lib.Dec.{eqb}
 use lib.ListN.{length, getD, take, length-take}
 use Rattle.word.specs.Bytes.{byteAt, bytesFrom}
 use Rattle.word.proofs.Bytes.{length-bytesFrom, take-bytesFrom, by-bytes, each-byte}
-use Rattle.sponge.specs.Record.{same}
+use Rattle.sponge.specs.declared.record.Record.{Record}
+use Rattle.sponge.specs.Record.{same, block, tagMatches}
 
 -- ---- lists are the same exactly where they are equal
 
@@ -33,13 +34,19 @@ other-same xs ys ne = go (List-discrete ℕ-discrete xs ys)
     go (yes p) = absurd (ne p)
     go (no n) = refl
 
-pub same-equal : (xs ys : List ℕ) → same xs ys ≡ true → xs ≡ ys
+same-equal : (xs ys : List ℕ) → same xs ys ≡ true → xs ≡ ys
 unfolding same decide
 same-equal xs ys h = go (List-discrete ℕ-discrete xs ys) h
   where
     go : (d : Dec (xs ≡ ys)) → decide d ≡ true → xs ≡ ys
     go (yes p) e = p
     go (no n) e = absurd (false≢true e)
+
+-- the comparison of a tag is equality of lists, both ways: it passes where the tag is as many first bytes of the block, and nowhere else
+pub tag-both-ways : (tag : List ℕ) (r : Record)
+    → (tagMatches tag r ≡ true → tag ≡ take (length tag) (block r)) × (tag ≡ take (length tag) (block r) → tagMatches tag r ≡ true)
+unfolding tagMatches
+tag-both-ways tag r = (same-equal tag (take (length tag) (block r)), equal-same tag (take (length tag) (block r)))
 
 -- ---- a tag, byte by byte
 

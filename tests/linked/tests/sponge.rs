@@ -102,7 +102,7 @@ fn long_messages_and_long_outputs() {
 fn only_the_lent_bytes_are_written() {
     for mode in MODES {
         let (output, _) = expected(mode, &KEY, b"ramp", 30);
-        let mut buffer = vec![0xa5; 50];
+        let mut buffer = [0xa5; 50];
         sponge(mode.number, &KEY, b"ramp", 2, &mut buffer[10..40], 11);
         assert_eq!(buffer[..10], [0xa5; 10]);
         assert_eq!(buffer[10..40], output[..]);
