@@ -1,5 +1,7 @@
 //! Ascon, written from the papers for comparison alone: slow, bit place by bit place, and sharing nothing with the code under test.
 
+pub mod machine;
+
 /// Table 3 of source document 003, as printed.
 const ROUND_CONSTANTS: [u64; 12] = [
     0xf0, 0xe1, 0xd2, 0xc3, 0xb4, 0xa5, 0x96, 0x87, 0x78, 0x69, 0x5a, 0x4b,

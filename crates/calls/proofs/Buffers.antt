@@ -1,0 +1,51 @@
+-- A lent buffer after a draw: bytes stand where they were written, and every other byte is as it was.
+-- Assumes nothing.
+use mathlib.Core.Path.{_≡_, sym, ap, _∙_}
+use mathlib.Core.List.{List, _++_}
+use Prim.Native.Nat.{ℕ, _+_, _-_, _≤_, _<_}
+use native.Mathlib.Omega.{arith}
+use lib.ListN.{length, take, drop, getD, length-append, length-drop, List·getD-append}
+use lib.Seq.{length-take-le, take-at, drop-at, getD-append-add, getD-take, getD-drop}
+use Rattle.calls.specs.Checks.{written}
+
+-- the bytes lie in the buffer from place on
+module _ (buffer : List ℕ) (place : ℕ) (bytes : List ℕ) (fits : place + length bytes ≤ length buffer) where
+  front : length (take place buffer) ≡ place
+  front = length-take-le place buffer (omega arith)
+
+  -- the buffer keeps its length
+  pub length-written : length (written buffer place bytes) ≡ length buffer
+  unfolding written
+  length-written = rw (length-append, length-append, front, length-drop) (omega arith)
+
+  -- the bytes, read back
+  pub read-written : (count : ℕ) → length bytes ≡ count → take count (drop place (written buffer place bytes)) ≡ bytes
+  unfolding written
+  read-written count n =
+      rw (drop-at (take place buffer) (bytes ++ drop (place + length bytes) buffer) place front)
+      (take-at bytes (drop (place + length bytes) buffer) count n)
+
+  -- one of them
+  pub at-written : (i z : ℕ) → i < length bytes → getD (written buffer place bytes) (place + i) z ≡ getD bytes i z
+  unfolding written
+  at-written i z h =
+      rw front at (getD-append-add (take place buffer) (bytes ++ drop (place + length bytes) buffer) i z)
+      ∙ List·getD-append bytes (drop (place + length bytes) buffer) z i h
+
+  -- a byte before them stays
+  pub before-written : (i z : ℕ) → i < place → getD (written buffer place bytes) i z ≡ getD buffer i z
+  unfolding written
+  before-written i z h =
+      List·getD-append (take place buffer) (bytes ++ drop (place + length bytes) buffer) z i (omega (arith, front)) ∙ getD-take place buffer i z h
+
+  -- and a byte after them
+  pub after-written : (i z : ℕ) → place + length bytes ≤ i → getD (written buffer place bytes) i z ≡ getD buffer i z
+  unfolding written
+  after-written i z h =
+      let e : i ≡ place + (length bytes + (i - (place + length bytes))) = omega arith in
+      let e' : i ≡ place + length bytes + (i - (place + length bytes)) = omega arith in
+      ap (λ (j : ℕ). getD (written buffer place bytes) j z) e
+      ∙ rw front at (getD-append-add (take place buffer) (bytes ++ drop (place + length bytes) buffer) (length bytes + (i - (place + length bytes))) z)
+      ∙ getD-append-add bytes (drop (place + length bytes) buffer) (i - (place + length bytes)) z
+      ∙ getD-drop (place + length bytes) buffer (i - (place + length bytes)) z
+      ∙ ap (λ (j : ℕ). getD buffer j z) (sym e')

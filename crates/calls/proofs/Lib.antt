@@ -1,0 +1,12 @@
+pub mod Keyed
+pub mod Walks
+pub mod Checks
+pub mod Buffers
+pub mod Output
+pub mod Entries
+pub mod Outcomes
+pub mod Sound
+pub mod Readings
+pub mod Tickets
+pub mod Sums
+pub mod Law

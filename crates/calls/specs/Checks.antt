@@ -1,0 +1,104 @@
+-- The checks of document 01's "Tickets", each call's in the paper's order, with the numbers of "Refused". The hub and the plain machine answer by these same lists:
+-- what the checks ask about a ticket is its standing, which each of the two works out in its own way.
+-- Assumes nothing.
+use mathlib.Core.Bool.{Bool, true, false, cond, not, _||_}
+use mathlib.Core.List.{List, [], _∷_, _++_}
+use Prim.Native.Nat.{ℕ, _+_}
+use lib.Dec.{eqb, leb, ltb}
+use lib.ListN.{length, take, drop}
+use Rattle.sponge.specs.declared.mode.Mode.{Mode}
+use Rattle.sponge.specs.declared.mode.Named.{Named}
+use Rattle.sponge.specs.declared.mode.Named.the-variants.{Is, NoMode}
+use Rattle.sponge.specs.Mode.{row, numberOf}
+
+-- ---- limits
+
+-- so many tickets are open at once
+abbrev pub mostOpen : ℕ
+mostOpen = 16
+
+-- so many are issued in all
+abbrev pub mostIssued : ℕ
+mostIssued = 4294967295
+
+-- so many bytes are fed to one
+abbrev pub mostFed : ℕ
+mostFed = 16777216
+
+-- a tag has at least and at most so many bytes
+abbrev pub shortestTag : ℕ
+shortestTag = 8
+
+abbrev pub longestTag : ℕ
+longestTag = 16
+
+-- ---- lists of checks
+
+-- one check: whether it fails, and the number that is answered then
+pub record Check : Type 0 where
+  pub fails : Bool
+  pub number : ℕ
+
+-- check n fails where b holds
+abbrev pub refusal : ℕ → Bool → Check
+refusal n b = record { fails = b; number = n }
+
+-- the first check that fails is answered with its number; where none does, the call is done
+abbrev pub checked : {A : Type 0} → (ℕ → A) → List Check → A → A
+checked refuse [] done = done
+checked refuse (c ∷ cs) done = cond (c .fails) (refuse (c .number)) (checked refuse cs done)
+
+-- ---- open: 1, 2, 14, 13
+
+-- a number that is not 1 to 4 names no mode
+abbrev pub namesNone : Named → Bool
+namesNone (Is mode) = false
+namesNone NoMode = true
+
+-- a key has not the length of its mode. No key is right for no mode
+abbrev pub wrongKey : Named → List ℕ → Bool
+wrongKey (Is mode) key = not (eqb (length key) (row mode .keyLength))
+wrongKey NoMode key = true
+
+-- how many tickets were issued; whether as many are open as there are places
+unfoldable pub openChecks : Named → List ℕ → ℕ → Bool → List Check
+openChecks mode key issued full =
+    refusal 1 (namesNone mode) ∷ refusal 2 (wrongKey mode key) ∷ refusal 14 (leb mostIssued issued) ∷ refusal 13 full ∷ []
+
+-- ---- calls on a ticket
+
+-- what is asked about a ticket: whether it was ever issued and whether it is open; of an open one its mode, whether feeding lasts, and how many bytes are fed and drawn
+pub record Standing : Type 0 where
+  pub issued : Bool
+  pub isOpen : Bool
+  pub mode : Mode
+  pub feeding : Bool
+  pub fed : ℕ
+  pub drawn : ℕ
+
+-- close, and what every other call on a ticket begins with: 11, 12
+unfoldable pub ticketChecks : Standing → List Check
+ticketChecks s = refusal 11 (not (s .issued)) ∷ refusal 12 (not (s .isOpen)) ∷ []
+
+-- feed: 11, 12, 15, 16
+unfoldable pub feedChecks : Standing → List ℕ → List Check
+feedChecks s bytes = ticketChecks s ++ refusal 15 (not (s .feeding)) ∷ refusal 16 (ltb mostFed (s .fed + length bytes)) ∷ []
+
+-- draw: 11, 12, 3, 17
+unfoldable pub drawChecks : Standing → List ℕ → ℕ → ℕ → List Check
+drawChecks s buffer place count =
+    ticketChecks s ++ refusal 3 (ltb (length buffer) (place + count)) ∷ refusal 17 (ltb (row (s .mode) .mostDrawn) (s .drawn + count)) ∷ []
+
+-- check: 11, 12, 18, 4
+unfoldable pub checkChecks : Standing → List ℕ → List Check
+checkChecks s tag =
+    ticketChecks s
+    ++ refusal 18 (not (eqb (numberOf (s .mode)) 2))
+    ∷ refusal 4 (ltb (length tag) shortestTag || ltb longestTag (length tag))
+    ∷ []
+
+-- ---- a lent buffer
+
+-- bytes written from a place on; the buffer keeps its others
+unfoldable pub written : List ℕ → ℕ → List ℕ → List ℕ
+written buffer place bytes = take place buffer ++ (bytes ++ drop (place + length bytes) buffer)

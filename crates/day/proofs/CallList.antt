@@ -1,0 +1,63 @@
+-- The calls of the day, one after the other.
+-- Assumes nothing.
+use mathlib.Core.Path.{_≡_, refl, sym, ap, _∙_}
+use mathlib.Core.List.{List, []}
+use Prim.Native.Nat.{ℕ, suc, _+_, _-_, _*_, _/_, _%_, _≤_, _<_}
+use native.Mathlib.Nat.{add-sub-cancel-left}
+use native.Mathlib.Numerals.{add-one}
+use native.Mathlib.Omega.{arith}
+use borrow.Author.Tests.{lt-ltb, le-ltb}
+use lib.ListN.{take, drop, replicate}
+use Rattle.calls.specs.Call.{Call, Open, Feed, Draw, Close, final}
+use Rattle.hub.specs.declared.Hub.{Hub}
+use Rattle.hub.specs.Hub.{onHub, feedHub}
+use Rattle.day.specs.Day.{callAt, callsFrom, often}
+
+-- ---- which call it is
+
+module _ (i : ℕ) (bytes : List ℕ) where
+  pub opens-keyed : i < 16 → i % 4 < 2 → callAt i bytes ≡ Open (i % 4 + 1) (take (i + 16 - i) (drop i bytes))
+  unfolding callAt
+  opens-keyed h k = rw (lt-ltb i 16 h, lt-ltb (i % 4) 2 k, add-sub-cancel-left)
+
+  pub opens-unkeyed : i < 16 → 2 ≤ i % 4 → callAt i bytes ≡ Open (i % 4 + 1) []
+  unfolding callAt
+  opens-unkeyed h k = rw (lt-ltb i 16 h, le-ltb (i % 4) 2 k)
+
+  pub feeds : 16 ≤ i → i < 96 → callAt i bytes ≡ Feed (i % 16 + 1) (take (i % 64 + i * 5 % 37 - i % 64) (drop (i % 64) bytes))
+  unfolding callAt
+  feeds h k = rw (le-ltb i 16 h, lt-ltb i 96 k, add-sub-cancel-left)
+
+  pub draws : 96 ≤ i → i < 192 → callAt i bytes ≡ Draw (i % 16 + 1) (replicate 48 170) (i % 41) (i * 7 % 23)
+  unfolding callAt
+  draws h k = rw (le-ltb i 16 (omega arith), le-ltb i 96 h, lt-ltb i 192 k)
+
+  pub closes : 192 ≤ i → callAt i bytes ≡ Close (i / 2 % 20)
+  unfolding callAt
+  closes h = rw (le-ltb i 16 (omega arith), le-ltb i 96 (omega arith), le-ltb i 192 h)
+
+-- ---- what is left of them
+
+one-less : (n i : ℕ) → i < n → n - i ≡ suc (n - (i + 1))
+one-less n i h = omega arith
+
+none-left : (n i : ℕ) → n ≤ i → n - i ≡ 0
+none-left n i h = omega arith
+
+pub calls-next : (bytes : List ℕ) (end i : ℕ) (h after : Hub) → i < end → after ≡ onHub (callAt i bytes) h .after
+    → final onHub after (callsFrom (i + 1) (end - (i + 1)) bytes) ≡ final onHub h (callsFrom i (end - i) bytes)
+unfolding callsFrom final
+calls-next bytes end i h after l e = rw (one-less end i l, e, add-one)
+
+pub calls-end : (bytes : List ℕ) (end i : ℕ) (h : Hub) → end ≤ i → h ≡ final onHub h (callsFrom i (end - i) bytes)
+unfolding callsFrom final
+calls-end bytes end i h l = rw (none-left end i l)
+
+pub often-next : (bytes : List ℕ) (ticket times i : ℕ) (h after : Hub) → i < times → after ≡ feedHub ticket bytes h .after
+    → final onHub after (often (times - (i + 1)) ticket bytes) ≡ final onHub h (often (times - i) ticket bytes)
+unfolding often final onHub
+often-next bytes ticket times i h after l e = rw (one-less times i l, e)
+
+pub often-end : (bytes : List ℕ) (ticket times i : ℕ) (h : Hub) → times ≤ i → h ≡ final onHub h (often (times - i) ticket bytes)
+unfolding often final
+often-end bytes ticket times i h l = rw (none-left times i l)

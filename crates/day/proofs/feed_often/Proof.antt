@@ -1,0 +1,80 @@
+use mathlib.Core.Path.{_≡_, ap, _∙_}
+use Prim.Native.Nat.{_-_, _≤_}
+use native.Mathlib.Nat.{sub-zero}
+use native.Mathlib.Omega.{arith}
+use borrow.Author.Needs.{needs}
+use Rattle.calls.specs.Call.{final}
+use Rattle.hub.specs.declared.Reply.{Reply}
+use Rattle.hub.specs.Hub.{onHub}
+use Rattle.day.specs.Day.{often}
+use Rattle.day.proofs.CallList.{often-next, often-end}
+use Rattle.day.proofs.feed_often.Statement.{statement}
+use Rattle.day.proofs.feed_often.Tie as tie
+
+abbrev Inv-loop : tie.InvT-loop
+Inv-loop ticket bytes times current₀ i₀ current i =
+    (i ≤ times) × (final onHub current (often (times - i) ticket bytes) ≡ final onHub current₀ (often times ticket bytes))
+
+abbrev μ-loop : tie.MeasureT-loop
+μ-loop ticket bytes times current₀ i₀ current i = times - i
+
+slice-aggregate-write-all : tie.Need-slice-aggregate-write-all Inv-loop μ-loop
+slice-aggregate-write-all c = search needs
+
+write-all-requires : tie.Need-write-all-requires Inv-loop μ-loop
+write-all-requires c κs = search needs
+
+print-number-requires : tie.Need-print-number-requires Inv-loop μ-loop
+print-number-requires c κs = search needs
+
+print-number-requires-2 : tie.Need-print-number-requires-2 Inv-loop μ-loop
+print-number-requires-2 c κs = search needs
+
+print-bytes-requires : tie.Need-print-bytes-requires Inv-loop μ-loop
+print-bytes-requires c κs = search needs
+
+slice-aggregate-write-all-2 : tie.Need-slice-aggregate-write-all-2 Inv-loop μ-loop
+slice-aggregate-write-all-2 c = search needs
+
+write-all-requires-2 : tie.Need-write-all-requires-2 Inv-loop μ-loop
+write-all-requires-2 c κs = search needs
+
+loop-holds : tie.Need-loop-holds Inv-loop μ-loop
+loop-holds c = (omega arith, rw sub-zero)
+
+feed-requires : tie.Need-feed-requires Inv-loop μ-loop
+feed-requires c κs = search needs
+
+add-i : tie.Need-add-i Inv-loop μ-loop
+add-i c = search needs
+
+loop-less : tie.Need-loop-less Inv-loop μ-loop
+loop-less c = omega arith
+
+loop-again : tie.Need-loop-again Inv-loop μ-loop
+loop-again c =
+    let l = c .before .before .before .loop in
+    (omega arith, often-next _ _ _ (l .i) (l .current) _ (omega arith) (ap (λ (r : Reply). r .hub) (c .before .feed .ensures)) ∙ l .inv .1)
+
+returns : tie.Need-returns Inv-loop μ-loop
+returns c = often-end _ _ _ (c .before .loop .i) (c .before .loop .current) (omega arith) ∙ c .before .loop .inv .1
+
+pub feed-often-spec : {M : Type 1} → statement M
+feed-often-spec =
+    tie.close
+    (tie.spec
+    Inv-loop
+    μ-loop
+    slice-aggregate-write-all
+    write-all-requires
+    print-number-requires
+    print-number-requires-2
+    print-bytes-requires
+    slice-aggregate-write-all-2
+    write-all-requires-2
+    loop-holds
+    feed-requires
+    add-i
+    loop-less
+    loop-again
+    returns)

@@ -1,0 +1,19 @@
+use mathlib.Core.Path.{_≡_, ap}
+use mathlib.Core.List.{List}
+use lib.ListN.{replicate}
+use borrow.Author.Needs.{needs}
+use Rattle.sponge.specs.declared.record.Record.{Record}
+use Rattle.hub.specs.declared.Hub.{Hub}
+use Rattle.hub.specs.Hub.{emptyHub}
+use Rattle.hub.proofs.Hub.empty.Statement.{statement}
+use Rattle.hub.proofs.Hub.empty.Tie as tie
+
+vacant-requires : tie.Need-vacant-requires
+vacant-requires c κs = search needs
+
+returns : tie.Need-returns
+unfolding emptyHub
+returns c = ap (λ (r : Record). record { records = replicate 16 r; issued = 0; closed = 0 }) (c .vacant .ensures)
+
+pub empty-spec : {M : Type 1} → statement M
+empty-spec = tie.close (tie.spec vacant-requires returns)

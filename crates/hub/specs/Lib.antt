@@ -1,0 +1,2 @@
+pub mod Hub
+pub mod Law

@@ -1,0 +1,190 @@
+//! Document 01's plain machine, written from its paragraph and its lists of checks alone: it holds what was said, and works every output out from the beginning.
+use crate::{permute, sponge, Mode, MODES};
+
+#[derive(Clone, Debug, PartialEq)]
+pub enum Call {
+    Open {
+        mode: u32,
+        key: Vec<u8>,
+    },
+    Feed {
+        ticket: u32,
+        bytes: Vec<u8>,
+    },
+    Draw {
+        ticket: u32,
+        buffer: Vec<u8>,
+        place: u64,
+        count: u64,
+    },
+    Check {
+        ticket: u32,
+        tag: Vec<u8>,
+    },
+    Close {
+        ticket: u32,
+    },
+    Sum,
+}
+
+/// Every field of an answer, and the buffer as the call leaves it.
+#[derive(Clone, Debug, Default, PartialEq)]
+pub struct Answer {
+    pub refusal: u32,
+    pub ticket: u32,
+    pub runs: u64,
+    pub passed: bool,
+    pub sum: u64,
+    pub buffer: Option<Vec<u8>>,
+}
+
+struct Entry {
+    open: bool,
+    mode: &'static Mode,
+    key: [u8; 16],
+    fed: Vec<u8>,
+    feeding: bool,
+    drawn: usize,
+}
+
+/// The entry of ticket t is number t - 1.
+#[derive(Default)]
+pub struct Machine {
+    entries: Vec<Entry>,
+}
+
+/// How much may be drawn from a ticket of a mode.
+fn most_drawn(mode: &Mode) -> u128 {
+    match mode.number {
+        2 => 16,
+        3 => 32,
+        _ => 1_048_576,
+    }
+}
+
+impl Entry {
+    fn output(&self, length: usize) -> Vec<u8> {
+        sponge(permute, self.mode, &self.key, &self.fed, length).0
+    }
+
+    /// The formula for the run count.
+    fn runs(&self) -> u64 {
+        let fed = self.fed.len() / self.mode.feed_rate;
+        let drawn = if self.feeding {
+            0
+        } else {
+            self.drawn.div_ceil(self.mode.draw_rate).max(1)
+        };
+        (fed + 1 + drawn) as u64
+    }
+}
+
+impl Machine {
+    /// What a call is answered. A refusal has its number, and 0 in every other field.
+    pub fn call(&mut self, call: &Call) -> Answer {
+        let lent = match call {
+            Call::Draw { buffer, .. } => Some(buffer.clone()),
+            _ => None,
+        };
+        self.accept(call).unwrap_or_else(|refusal| Answer {
+            refusal,
+            buffer: lent,
+            ..Answer::default()
+        })
+    }
+
+    /// The entry of an open ticket, or 11 or 12.
+    fn entry(&mut self, ticket: u32) -> Result<&mut Entry, u32> {
+        let place = (ticket as usize).checked_sub(1).ok_or(11u32)?;
+        let entry = self.entries.get_mut(place).ok_or(11u32)?;
+        if entry.open {
+            Ok(entry)
+        } else {
+            Err(12)
+        }
+    }
+
+    fn accept(&mut self, call: &Call) -> Result<Answer, u32> {
+        let mut answer = Answer::default();
+        match call {
+            Call::Open { mode, key } => {
+                let mode = *MODES.iter().find(|m| m.number == *mode).ok_or(1u32)?;
+                if key.len() != if mode.keyed { 16 } else { 0 } {
+                    return Err(2);
+                }
+                if self.entries.len() == 4_294_967_295 {
+                    return Err(14);
+                }
+                if self.entries.iter().filter(|e| e.open).count() == 16 {
+                    return Err(13);
+                }
+                let mut padded = [0; 16];
+                padded[..key.len()].copy_from_slice(key);
+                self.entries.push(Entry {
+                    open: true,
+                    mode,
+                    key: padded,
+                    fed: Vec::new(),
+                    feeding: true,
+                    drawn: 0,
+                });
+                answer.ticket = self.entries.len() as u32;
+                answer.runs = self.entries.last().unwrap().runs();
+            }
+            Call::Feed { ticket, bytes } => {
+                let entry = self.entry(*ticket)?;
+                if !entry.feeding {
+                    return Err(15);
+                }
+                if entry.fed.len() + bytes.len() > 16_777_216 {
+                    return Err(16);
+                }
+                entry.fed.extend_from_slice(bytes);
+                answer.runs = entry.runs();
+            }
+            Call::Draw {
+                ticket,
+                buffer,
+                place,
+                count,
+            } => {
+                let entry = self.entry(*ticket)?;
+                if *place as u128 + *count as u128 > buffer.len() as u128 {
+                    return Err(3);
+                }
+                if entry.drawn as u128 + *count as u128 > most_drawn(entry.mode) {
+                    return Err(17);
+                }
+                let (place, count) = (*place as usize, *count as usize);
+                let before = entry.drawn;
+                entry.feeding = false;
+                entry.drawn += count;
+                let mut after = buffer.clone();
+                if count > 0 {
+                    after[place..place + count].copy_from_slice(&entry.output(before + count)[before..]);
+                }
+                answer.buffer = Some(after);
+                answer.runs = entry.runs();
+            }
+            Call::Check { ticket, tag } => {
+                let entry = self.entry(*ticket)?;
+                if entry.mode.number != 2 {
+                    return Err(18);
+                }
+                if !(8..=16).contains(&tag.len()) {
+                    return Err(4);
+                }
+                entry.feeding = false;
+                answer.passed = entry.output(tag.len()) == *tag;
+                answer.runs = entry.runs();
+            }
+            Call::Close { ticket } => {
+                let entry = self.entry(*ticket)?;
+                entry.open = false;
+                answer.runs = entry.runs();
+            }
+            Call::Sum => answer.sum = self.entries.iter().map(Entry::runs).sum(),
+        }
+        Ok(answer)
+    }
+}
