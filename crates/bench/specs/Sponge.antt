@@ -4,10 +4,10 @@ use mathlib.Core.Bool.{cond}
 use mathlib.Core.List.{List, [], _∷_}
 use Prim.Native.Nat.{ℕ, _-_, min}
 use lib.ListN.{length, take, drop}
-use Rattle.sponge.specs.declared.mode.Mode.the-variants.{Mac}
-use Rattle.sponge.specs.declared.mode.Named.{Named}
-use Rattle.sponge.specs.declared.mode.Named.the-variants.{Is, NoMode}
-use Rattle.sponge.specs.Mode.{row}
+use Rattle.mode.specs.declared.Mode.the-variants.{Mac}
+use Rattle.mode.specs.declared.Named.{Named}
+use Rattle.mode.specs.declared.Named.the-variants.{Is, NoMode}
+use Rattle.mode.specs.Mode.{row}
 use Rattle.sponge.specs.Sponge.{oneShot, runsEnded}
 use Rattle.sponge.specs.Record.{same}
 

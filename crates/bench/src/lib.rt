@@ -1,13 +1,13 @@
 // The permutation and the sponge as C calls them: for the test bench of document 01, the benchmarks under bench/ and the tests under tests/.
-use sponge::Mode;
-use sponge::Named;
+use mode::Mode;
+use mode::Named;
 use sponge::Record;
 ghost use mathlib.Core.Path.{_≡_};
 ghost use mathlib.Core.List.{[], _∷_};
 ghost use lib.ListN.{length};
 ghost use Rattle.permutation.specs.Permutation.{at, run};
 ghost use Rattle.permutation.specs.Row.{rowAnswer, rowAfter};
-ghost use Rattle.sponge.specs.Mode.{named};
+ghost use Rattle.mode.specs.Mode.{named};
 ghost use Rattle.bench.specs.Chain.{repeated};
 ghost use Rattle.sponge.specs.Streaming.{absorbedParts, nextParts, squeezedParts};
 ghost use Rattle.bench.specs.Sponge.{partsAt, countsAt, spongeRuns, spongeOut, tagAnswer};

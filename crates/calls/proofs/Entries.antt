@@ -7,8 +7,8 @@ use Prim.Native.Nat.{ℕ, _+_, _≤_}
 use native.Mathlib.Nat.{le-refl}
 use borrow.Author.Tests.{lt-ltb, le-ltb}
 use lib.ListN.{length}
-use Rattle.sponge.specs.declared.mode.Mode.the-variants.{Prf}
-use Rattle.sponge.specs.Mode.{row}
+use Rattle.mode.specs.declared.Mode.the-variants.{Prf}
+use Rattle.mode.specs.Mode.{row}
 use Rattle.calls.specs.Checks.{Standing, mostIssued, mostFed}
 use Rattle.calls.specs.Machine.{Entry, Machine, runsOf, newEntry, afterClose, placeOf, entryOf, standingOf}
 use Rattle.calls.proofs.Keyed.{AtMost, all, absent, inside, found}

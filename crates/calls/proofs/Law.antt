@@ -5,11 +5,11 @@ use mathlib.Core.Path.{_≡_, refl, sym, ap, ap₂, _∙_, fun-ext}
 use mathlib.Core.List.{List, [], _∷_}
 use Prim.Native.Nat.{ℕ}
 use lib.ListN.{length}
-use Rattle.sponge.specs.declared.mode.Mode.{Mode}
-use Rattle.sponge.specs.declared.mode.Named.the-variants.{Is}
-use Rattle.sponge.specs.Mode.{row, numberOf, named}
+use Rattle.mode.specs.declared.Mode.{Mode}
+use Rattle.mode.specs.declared.Named.the-variants.{Is}
+use Rattle.mode.specs.Mode.{row, numberOf, named}
 use Rattle.sponge.specs.Sponge.{oneShot}
-use Rattle.sponge.proofs.Modes.{named-number}
+use Rattle.mode.proofs.Modes.{named-number}
 use Rattle.calls.specs.Answer.{summed}
 use Rattle.calls.specs.Call.{Call, Event, events, final}
 use Rattle.calls.specs.Keyed.{total}

@@ -9,13 +9,13 @@ use native.Mathlib.Omega.{arith}
 use borrow.Author.Tests.{ltb-false, leb-false, not-false}
 use lib.Dec.{eqb, leb, ltb}
 use lib.ListN.{length, drop}
-use Rattle.sponge.specs.declared.mode.Mode.{Mode}
-use Rattle.sponge.specs.declared.mode.Mode.the-variants.{Prf, Mac, Hash, Xof}
-use Rattle.sponge.specs.declared.mode.Named.{Named}
-use Rattle.sponge.specs.declared.mode.Named.the-variants.{Is, NoMode}
-use Rattle.sponge.specs.Mode.{row, numberOf, named, numberNamed}
+use Rattle.mode.specs.declared.Mode.{Mode}
+use Rattle.mode.specs.declared.Mode.the-variants.{Prf, Mac, Hash, Xof}
+use Rattle.mode.specs.declared.Named.{Named}
+use Rattle.mode.specs.declared.Named.the-variants.{Is, NoMode}
+use Rattle.mode.specs.Mode.{row, numberOf, named, numberNamed}
 use Rattle.sponge.specs.Record.{same}
-use Rattle.sponge.proofs.Modes.{number-named}
+use Rattle.mode.proofs.Modes.{number-named}
 use Rattle.calls.specs.Answer.{opened, counted, judged}
 use Rattle.calls.specs.Call.{Call, Open, Feed, Draw, Check, Close, Sum, Step, step, refuse}
 use Rattle.calls.specs.Checks.{Check as OneCheck, Standing, mostIssued, mostFed, mostOpen, shortestTag, longestTag, refusal, checked}

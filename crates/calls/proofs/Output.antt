@@ -5,10 +5,10 @@ use mathlib.Core.List.{List, _++_}
 use Prim.Native.Nat.{ℕ, _+_}
 use native.Mathlib.Omega.{arith}
 use lib.ListN.{length, take, drop, length-drop, take-append-drop}
-use Rattle.sponge.specs.declared.mode.Mode.{Mode}
-use Rattle.sponge.specs.Mode.{row}
+use Rattle.mode.specs.declared.Mode.{Mode}
+use Rattle.mode.specs.Mode.{row}
 use Rattle.sponge.specs.Sponge.{start, absorbMessage, output, oneShot}
-use Rattle.sponge.proofs.Modes.{rates}
+use Rattle.mode.proofs.Modes.{rates}
 use Rattle.sponge.proofs.Drawing.{valuesFrom, length-values, take-values, outputByte, squeezeBytes-values}
 
 module _ (mode : Mode) (key message : List ℕ) where

@@ -10,11 +10,11 @@ use native.Mathlib.Nat.{div-le-self}
 use borrow.Author.Tests.{eqb-true, eqb-false}
 use lib.Dec.{eqb}
 use lib.ListN.{length, length-set, length-append}
-use Rattle.sponge.specs.declared.mode.Mode.{Mode}
-use Rattle.sponge.specs.declared.mode.Mode.the-variants.{Prf, Mac, Hash, Xof}
-use Rattle.sponge.specs.Mode.{row}
+use Rattle.mode.specs.declared.Mode.{Mode}
+use Rattle.mode.specs.declared.Mode.the-variants.{Prf, Mac, Hash, Xof}
+use Rattle.mode.specs.Mode.{row}
 use Rattle.sponge.specs.Sponge.{start, runsFeeding, runsEnded}
-use Rattle.sponge.proofs.Modes.{rates}
+use Rattle.mode.proofs.Modes.{rates}
 use Rattle.sponge.proofs.Drawing.{blocks-drawn}
 use Rattle.calls.specs.Call.{Call, Step, refuse, final}
 use Rattle.calls.specs.Checks.{Check as OneCheck, Standing, mostIssued, mostFed, checked, ticketChecks}

@@ -9,8 +9,8 @@ use native.Mathlib.Nat.{add-zero, le-refl}
 use borrow.Author.Tests.{eqb-true, eqb-false, ne-eqb}
 use lib.Dec.{eqb}
 use lib.ListN.{length, take, drop}
-use Rattle.sponge.specs.declared.mode.Mode.{Mode}
-use Rattle.sponge.specs.Mode.{numberOf}
+use Rattle.mode.specs.declared.Mode.{Mode}
+use Rattle.mode.specs.Mode.{numberOf}
 use Rattle.sponge.specs.Sponge.{squeezeBytes, output, oneShot}
 use Rattle.calls.specs.declared.Answer.{Answer}
 use Rattle.calls.specs.Answer.{refused, opened, counted, judged}

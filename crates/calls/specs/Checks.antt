@@ -6,10 +6,10 @@ use mathlib.Core.List.{List, [], _∷_, _++_}
 use Prim.Native.Nat.{ℕ, _+_}
 use lib.Dec.{eqb, leb, ltb}
 use lib.ListN.{length, take, drop}
-use Rattle.sponge.specs.declared.mode.Mode.{Mode}
-use Rattle.sponge.specs.declared.mode.Named.{Named}
-use Rattle.sponge.specs.declared.mode.Named.the-variants.{Is, NoMode}
-use Rattle.sponge.specs.Mode.{row, numberOf}
+use Rattle.mode.specs.declared.Mode.{Mode}
+use Rattle.mode.specs.declared.Named.{Named}
+use Rattle.mode.specs.declared.Named.the-variants.{Is, NoMode}
+use Rattle.mode.specs.Mode.{row, numberOf}
 
 -- ---- limits
 

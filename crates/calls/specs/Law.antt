@@ -5,8 +5,8 @@ use mathlib.Core.Path.{_≡_}
 use mathlib.Core.List.{List}
 use Prim.Native.Nat.{ℕ}
 use lib.ListN.{length}
-use Rattle.sponge.specs.declared.mode.Mode.{Mode}
-use Rattle.sponge.specs.Mode.{row, numberOf}
+use Rattle.mode.specs.declared.Mode.{Mode}
+use Rattle.mode.specs.Mode.{row, numberOf}
 use Rattle.sponge.specs.Sponge.{oneShot}
 use Rattle.calls.specs.Answer.{summed}
 use Rattle.calls.specs.Call.{Call, Sum, Step, Event, events, final}

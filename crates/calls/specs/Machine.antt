@@ -6,11 +6,11 @@ use mathlib.Core.List.{List, [], _∷_, _++_}
 use Prim.Native.Nat.{ℕ, _+_}
 use lib.Dec.{leb, ltb}
 use lib.ListN.{length, drop, getD, set}
-use Rattle.sponge.specs.declared.mode.Mode.{Mode}
-use Rattle.sponge.specs.declared.mode.Mode.the-variants.{Prf}
-use Rattle.sponge.specs.declared.mode.Named.{Named}
-use Rattle.sponge.specs.declared.mode.Named.the-variants.{Is, NoMode}
-use Rattle.sponge.specs.Mode.{row, named}
+use Rattle.mode.specs.declared.Mode.{Mode}
+use Rattle.mode.specs.declared.Mode.the-variants.{Prf}
+use Rattle.mode.specs.declared.Named.{Named}
+use Rattle.mode.specs.declared.Named.the-variants.{Is, NoMode}
+use Rattle.mode.specs.Mode.{row, named}
 use Rattle.sponge.specs.Sponge.{start, oneShot, runsFeeding, runsEnded}
 use Rattle.sponge.specs.Record.{same}
 use Rattle.calls.specs.Answer.{opened, counted, judged, summed}

@@ -8,11 +8,11 @@ use native.Mathlib.Omega.{arith}
 use borrow.Author.Tests.{eqb-true, ltb-false, not-false}
 use lib.Dec.{eqb, ltb}
 use lib.ListN.{length, drop}
-use Rattle.sponge.specs.declared.mode.Mode.{Mode}
-use Rattle.sponge.specs.declared.mode.Named.{Named}
-use Rattle.sponge.specs.declared.mode.Named.the-variants.{Is, NoMode}
+use Rattle.mode.specs.declared.Mode.{Mode}
+use Rattle.mode.specs.declared.Named.{Named}
+use Rattle.mode.specs.declared.Named.the-variants.{Is, NoMode}
 use Rattle.sponge.specs.declared.record.Record.{Record}
-use Rattle.sponge.specs.Mode.{row, numberOf, named}
+use Rattle.mode.specs.Mode.{row, numberOf, named}
 use Rattle.sponge.specs.Record.{sum64, vacant, absorbed, finished, nextBytes, squeezed, same, tagMatches}
 use Rattle.sponge.proofs.Core.{sum64-fits}
 use Rattle.calls.specs.declared.Answer.{Answer}

@@ -9,11 +9,11 @@ use borrow.Author.Tests.{le-leb, lt-leb}
 use lib.Dec.{eqb, ltb}
 use lib.ListN.{length, getD, take, drop, length-take, length-drop}
 use lib.Seq.{drop-drop}
-use Rattle.sponge.specs.declared.mode.Mode.{Mode}
-use Rattle.sponge.specs.declared.mode.Named.{Named}
-use Rattle.sponge.specs.declared.mode.Named.the-variants.{Is, NoMode}
+use Rattle.mode.specs.declared.Mode.{Mode}
+use Rattle.mode.specs.declared.Named.{Named}
+use Rattle.mode.specs.declared.Named.the-variants.{Is, NoMode}
 use Rattle.sponge.specs.declared.record.Record.{Record}
-use Rattle.sponge.specs.Mode.{row, numberOf, named}
+use Rattle.mode.specs.Mode.{row, numberOf, named}
 use Rattle.sponge.specs.Record.{sum64, vacant, fresh, absorbed, finished, nextBytes, squeezed, tagMatches}
 use Rattle.calls.specs.declared.Answer.{Answer}
 use Rattle.calls.specs.Answer.{opened, counted, judged}

@@ -11,7 +11,7 @@ use native.Mathlib.Nat.{add-zero, le-refl}
 use borrow.Author.Tests.{eq-eqb, ne-eqb, le-leb, lt-leb}
 use lib.Dec.{eqb, leb}
 use lib.ListN.{length, length-set, length-append}
-use Rattle.sponge.specs.declared.mode.Mode.{Mode}
+use Rattle.mode.specs.declared.Mode.{Mode}
 use Rattle.sponge.specs.declared.record.Record.{Record}
 use Rattle.sponge.specs.Record.{sum64, vacant}
 use Rattle.sponge.proofs.Core.{sum64-fits}

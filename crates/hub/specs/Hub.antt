@@ -5,11 +5,11 @@ use mathlib.Core.List.{List, []}
 use Prim.Native.Nat.{ℕ, _+_}
 use lib.Dec.{eqb, leb, ltb}
 use lib.ListN.{length, getD, set, replicate}
-use Rattle.sponge.specs.declared.mode.Mode.the-variants.{Prf}
-use Rattle.sponge.specs.declared.mode.Named.{Named}
-use Rattle.sponge.specs.declared.mode.Named.the-variants.{Is, NoMode}
+use Rattle.mode.specs.declared.Mode.the-variants.{Prf}
+use Rattle.mode.specs.declared.Named.{Named}
+use Rattle.mode.specs.declared.Named.the-variants.{Is, NoMode}
 use Rattle.sponge.specs.declared.record.Record.{Record}
-use Rattle.sponge.specs.Mode.{named}
+use Rattle.mode.specs.Mode.{named}
 use Rattle.sponge.specs.Record.{sum64, vacant, fresh, absorbed, finished, nextBytes, squeezed, tagMatches}
 use Rattle.calls.specs.Answer.{opened, counted, judged, summed}
 use Rattle.calls.specs.Checks.{mostOpen, Standing, checked, openChecks, ticketChecks, feedChecks, drawChecks, checkChecks, written}

@@ -6,11 +6,11 @@ use mathlib.Core.List.{List, [], _++_}
 use Prim.Native.Nat.{ℕ, _+_, _%_, _^_, _≤_, _<_}
 use lib.ListN.{length, length-append}
 use Rattle.word.specs.Bytes.{bytesFrom}
-use Rattle.sponge.specs.declared.mode.Mode.{Mode}
+use Rattle.mode.specs.declared.Mode.{Mode}
 use Rattle.sponge.specs.declared.record.Record.{Record}
-use Rattle.sponge.specs.Mode.{Row, row}
+use Rattle.mode.specs.Mode.{Row, row}
 use Rattle.sponge.specs.Record.{sum64, withFed, withDrawn, withFeeding, feedBytes, endFeeding, drawnBytes, afterDrawing, absorbed, finished, nextBytes, squeezed, block}
-use Rattle.sponge.proofs.Modes.{rates}
+use Rattle.mode.proofs.Modes.{rates}
 use Rattle.sponge.proofs.Core.{sum64-sum64, sum64-fits, sum64-zero, withCoreOf}
 use Rattle.sponge.proofs.Feeding.{feedBytes-core, feedBytes-place, feedBytes-append, endFeeding-core, endFeeding-place}
 use Rattle.sponge.proofs.Parts.{first-block-drawn}

@@ -16,7 +16,7 @@ use borrow.Author.Tests.{eqb-true, eqb-false, ne-eqb}
 use Rattle.word.specs.Bytes.{byteAt, bytesFrom}
 use Rattle.permutation.specs.Permutation.{run}
 use Rattle.sponge.specs.declared.record.Record.{Record}
-use Rattle.sponge.specs.Mode.{Row}
+use Rattle.mode.specs.Mode.{Row}
 use Rattle.sponge.specs.Sponge.{ceiling, squeezeBlocks, squeezeBytes}
 use Rattle.sponge.specs.Record.{sum64, withCore, afterRun, runIf, ready, drawnBytes, afterDrawing}
 use Rattle.sponge.proofs.Places.{suc-less, next-block, same-block}

@@ -4,8 +4,8 @@
 use mathlib.Core.Path.{_≡_, refl}
 use mathlib.Core.List.{[], _∷_, map}
 use Rattle.word.specs.Bytes.{fromBytes}
-use Rattle.sponge.specs.declared.mode.Mode.the-variants.{Prf, Hash}
-use Rattle.sponge.specs.Mode.{row}
+use Rattle.mode.specs.declared.Mode.the-variants.{Prf, Hash}
+use Rattle.mode.specs.Mode.{row}
 use Rattle.sponge.specs.Sponge.{ceiling, pad, cut, blocks, runsEnded}
 
 pub examples : (map fromBytes (blocks 8 (pad 8 (1 ∷ 2 ∷ 3 ∷ 4 ∷ 5 ∷ 6 ∷ 7 ∷ []))) ≡ 0x0102_0304_0506_0780 ∷ [])

@@ -17,7 +17,7 @@ use Rattle.word.specs.Bytes.{xorAt, xorFrom}
 use Rattle.word.proofs.Bytes.{xorFrom-zeros, xorFrom-append}
 use Rattle.permutation.specs.Permutation.{run}
 use Rattle.sponge.specs.declared.record.Record.{Record}
-use Rattle.sponge.specs.Mode.{Row}
+use Rattle.mode.specs.Mode.{Row}
 use Rattle.sponge.specs.Sponge.{pad, cut, blocks, flipIf, absorbBlocks, absorbMessage}
 use Rattle.sponge.proofs.Core.{sum64-lt, sum64-sum64, sum64-zero, withCoreOf, runIf-core}
 use Rattle.sponge.specs.Record.{sum64, withCore, withFeeding, inWords, afterRun, runIf, feedByte, feedBytes, endFeeding}

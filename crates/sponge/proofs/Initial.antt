@@ -13,7 +13,7 @@ use Rattle.word.specs.Bytes.{byteAt, bytesFrom, xorFrom, toBytes}
 use Rattle.word.proofs.Bytes.{Bytes, bytesFrom-word, bytesFrom-add, by-bytes}
 use Rattle.word.proofs.Windows.{window-past, word-xorFrom}
 use Rattle.word.proofs.Xored.{xored-from}
-use Rattle.sponge.specs.Mode.{Row}
+use Rattle.mode.specs.Mode.{Row}
 use Rattle.sponge.specs.Sponge.{initial}
 
 -- zeros, and zeros after a list, read as nothing

@@ -1,4 +1,3 @@
-pub mod Modes
 pub mod Places
 pub mod Core
 pub mod Feeding

@@ -16,7 +16,7 @@ use lib.Seq.{drop-drop, length-take-le, take-at, take-all}
 use Rattle.word.specs.Bytes.{bytesFrom, byteAt, xorFrom}
 use Rattle.word.proofs.Bytes.{length-bytesFrom}
 use Rattle.sponge.specs.declared.record.Record.{Record}
-use Rattle.sponge.specs.Mode.{Row}
+use Rattle.mode.specs.Mode.{Row}
 use Rattle.sponge.specs.Record.{afterRun, runIf, inWords, feedBytes, ready, drawnBytes, afterDrawing}
 use Rattle.sponge.specs.Parts.{filled, used}
 use Rattle.sponge.proofs.Places.{suc-less, next-place, first-place, block-end}

@@ -8,10 +8,10 @@ use Prim.Native.Nat.{ℕ, _+_, _-_, _/_, _^_, _≤_, _<_}
 use native.Mathlib.Omega.{arith}
 use native.Mathlib.Nat.{zero-add, zero-div, zero-mod, le-refl}
 use lib.ListN.{length, take, drop}
-use Rattle.sponge.specs.declared.mode.Mode.{Mode}
-use Rattle.sponge.specs.declared.mode.Mode.the-variants.{Prf, Mac, Hash, Xof}
+use Rattle.mode.specs.declared.Mode.{Mode}
+use Rattle.mode.specs.declared.Mode.the-variants.{Prf, Mac, Hash, Xof}
 use Rattle.sponge.specs.declared.record.Record.{Record}
-use Rattle.sponge.specs.Mode.{Row, row}
+use Rattle.mode.specs.Mode.{Row, row}
 use Rattle.sponge.specs.Sponge.{ceiling, start, absorbMessage, output, oneShot, runsFeeding, runsEnded}
 use Rattle.sponge.specs.Record.{sum64, withCore, withFed, withDrawn, withFeeding, afterRun, feedBytes, endFeeding, drawnBytes, afterDrawing, fresh, absorbed}
 use Rattle.sponge.specs.Record.{finished, nextBytes, squeezed, block, same, tagMatches}
@@ -20,7 +20,7 @@ use Rattle.sponge.proofs.Core.{sum64-lt, sum64-sum64, sum64-fits, sum64
 use Rattle.sponge.proofs.Feeding.{feedBytes-append, feeding-ended, feeding-counted}
 use Rattle.sponge.proofs.Drawing.{drawnBytes-core, drawnBytes-add, afterDrawing-core, afterDrawing-add, afterRuns, afterRuns-zero, afterDrawing-runs}
 use Rattle.sponge.proofs.Drawing.{drawnBytes-squeezed, blocks-drawn}
-use Rattle.sponge.proofs.Modes.{rates}
+use Rattle.mode.proofs.Modes.{rates}
 use Rattle.sponge.proofs.Parts.{ready-first, block-drawn}
 use Rattle.sponge.proofs.Calls.{absorbed-none, absorbed-append, finished-is, nextBytes-is, nextBytes-add, squeezed-is, squeezed-add, block-stays}
 

@@ -1,4 +1,3 @@
-pub mod Mode
 pub mod Sponge
 pub mod Record
 pub mod Parts

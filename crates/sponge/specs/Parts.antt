@@ -7,7 +7,7 @@ use lib.Dec.{eqb}
 use lib.ListN.{length}
 use Rattle.word.specs.Bytes.{xorFrom}
 use Rattle.sponge.specs.declared.record.Record.{Record}
-use Rattle.sponge.specs.Mode.{Row}
+use Rattle.mode.specs.Mode.{Row}
 use Rattle.sponge.specs.Record.{inWords, runIf}
 
 -- a part of a block is fed at once: it goes to the places from p on, and a run follows where it fills the block

@@ -10,10 +10,10 @@ use lib.Dec.{eqb}
 use lib.ListN.{length, take, replicate}
 use Rattle.word.specs.Bytes.{byteAt, bytesFrom, xorAt}
 use Rattle.permutation.specs.Permutation.{run}
-use Rattle.sponge.specs.declared.mode.Mode.{Mode}
-use Rattle.sponge.specs.declared.mode.Mode.the-variants.{Prf}
+use Rattle.mode.specs.declared.Mode.{Mode}
+use Rattle.mode.specs.declared.Mode.the-variants.{Prf}
 use Rattle.sponge.specs.declared.record.Record.{Record}
-use Rattle.sponge.specs.Mode.{Row, row}
+use Rattle.mode.specs.Mode.{Row, row}
 use Rattle.sponge.specs.Sponge.{initial, flipIf}
 
 -- a sum of 64 bits

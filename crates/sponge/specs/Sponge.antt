@@ -7,7 +7,7 @@ use Prim.Native.Nat.{ℕ, zero, suc, _+_, _-_, _/_, _%_, max}
 use lib.ListN.{length, take, drop, replicate}
 use Rattle.word.specs.Bytes.{bytesFrom, xorWord, xorFrom}
 use Rattle.permutation.specs.Permutation.{run}
-use Rattle.sponge.specs.Mode.{Row}
+use Rattle.mode.specs.Mode.{Row}
 
 -- the quotient rounded up
 unfoldable pub ceiling : ℕ → ℕ → ℕ

@@ -5,9 +5,9 @@ use mathlib.Core.Path.{_≡_}
 use mathlib.Core.List.{List, [], _∷_, _++_}
 use Prim.Native.Nat.{ℕ, _+_, _^_, _≤_, _<_}
 use lib.ListN.{length, take}
-use Rattle.sponge.specs.declared.mode.Mode.{Mode}
+use Rattle.mode.specs.declared.Mode.{Mode}
 use Rattle.sponge.specs.declared.record.Record.{Record}
-use Rattle.sponge.specs.Mode.{Row, row}
+use Rattle.mode.specs.Mode.{Row, row}
 use Rattle.sponge.specs.Sponge.{start, output, oneShot, runsFeeding, runsEnded}
 use Rattle.sponge.specs.Record.{feedBytes, endFeeding, drawnBytes, afterDrawing, fresh, absorbed, finished, nextBytes, squeezed, same, tagMatches}
 

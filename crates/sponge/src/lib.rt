@@ -1,7 +1,4 @@
 // The Ascon sponge: document 01's four modes, and the record of a sponge that is not done yet, into which bytes are fed and from which output is drawn.
-mod mode;
 mod record;
 
-pub use mode::Mode;
-pub use mode::Named;
 pub use record::Record;

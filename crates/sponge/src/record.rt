@@ -3,7 +3,7 @@ mod absorb;
 mod squeeze;
 mod tag;
 
-use crate::mode::Mode;
+use mode::Mode;
 ghost use mathlib.Core.Path.{_≡_};
 ghost use Rattle.sponge.specs.Record as spec;
 

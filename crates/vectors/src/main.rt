@@ -1,11 +1,11 @@
 // Prints the outputs of the four modes for messages of many lengths, whose bytes count up from 0. The stored output, crates/vectors/stdout, is the
 // outside vectors: known answers that were not made with this code.
-use sponge::Mode;
+use mode::Mode;
 use sponge::Record;
 ghost use mathlib.Core.Path.{_≡_};
 ghost use Prim.Native.Nat.{_*_, _≤_, _<_};
 ghost use lib.ListN.{length, take};
-ghost use Rattle.sponge.specs.Mode.{row};
+ghost use Rattle.mode.specs.Mode.{row};
 ghost use Rattle.sponge.specs.Sponge.{oneShot};
 ghost use Rattle.sponge.specs.Record.{absorbed};
 ghost use Rattle.vectors.specs.Text.{countingFrom, digitOf, hexOf, lengthOf};

@@ -5,9 +5,9 @@ use mathlib.Core.List.{List, _++_, append-nil}
 use Prim.Native.Nat.{ℕ, _+_, _-_, _^_, _<_, min}
 use native.Mathlib.Omega.{arith}
 use lib.ListN.{length, take, drop, take-append-drop}
-use Rattle.sponge.specs.declared.mode.Mode.{Mode}
-use Rattle.sponge.specs.declared.mode.Named.the-variants.{Is, NoMode}
-use Rattle.sponge.specs.Mode.{row, named}
+use Rattle.mode.specs.declared.Mode.{Mode}
+use Rattle.mode.specs.declared.Named.the-variants.{Is, NoMode}
+use Rattle.mode.specs.Mode.{row, named}
 use Rattle.sponge.specs.Sponge.{start, oneShot, runsEnded}
 use Rattle.sponge.specs.Record.{fresh, finished}
 use Rattle.sponge.specs.Streaming.{joined, total, absorbedParts, nextParts, squeezedParts}

@@ -6,7 +6,7 @@ use borrow.Author.Needs.{needs}
 use borrow.Author.Tests.{eq-eqb, ne-eqb}
 use lib.Dec.{eqb}
 use lib.ListN.{length}
-use Rattle.sponge.specs.Mode.{numberOf}
+use Rattle.mode.specs.Mode.{numberOf}
 use Rattle.calls.specs.declared.Answer.{Answer}
 use Rattle.calls.specs.Answer.{judged}
 use Rattle.hub.specs.declared.Hub.{Hub}

@@ -8,9 +8,9 @@ use borrow.Author.Needs.{needs}
 use borrow.Author.Tests.{ltb-false}
 use lib.Dec.{ltb}
 use lib.ListN.{length}
-use Rattle.sponge.specs.declared.mode.Mode.{Mode}
+use Rattle.mode.specs.declared.Mode.{Mode}
 use Rattle.sponge.specs.declared.record.Record.{Record}
-use Rattle.sponge.specs.Mode.{row}
+use Rattle.mode.specs.Mode.{row}
 use Rattle.sponge.specs.Record.{finished, nextBytes, squeezed}
 use Rattle.sponge.proofs.Calls.{length-nextBytes}
 use Rattle.calls.specs.declared.Answer.{Answer}

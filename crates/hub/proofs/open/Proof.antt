@@ -5,8 +5,8 @@ use borrow.Author.Needs.{needs}
 use borrow.Author.Tests.{eq-eqb, ne-eqb}
 use lib.Dec.{eqb}
 use lib.ListN.{length}
-use Rattle.sponge.specs.declared.mode.Named.the-variants.{Is}
-use Rattle.sponge.specs.Mode.{row, named}
+use Rattle.mode.specs.declared.Named.the-variants.{Is}
+use Rattle.mode.specs.Mode.{row, named}
 use Rattle.calls.specs.Answer.{opened}
 use Rattle.hub.specs.Hub.{replyOf}
 use Rattle.hub.proofs.Locating.{unmapped, absent-past, absent-within}

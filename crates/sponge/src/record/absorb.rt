@@ -1,11 +1,11 @@
 // Feeding: bytes are absorbed block by block, and the end of feeding pads the last block.
 use super::Record;
-use crate::mode::Mode;
+use mode::Mode;
 ghost use mathlib.Core.Path.{_≡_};
 ghost use Prim.Native.Nat.{_+_, _%_, _^_, _<_, _≤_};
 ghost use lib.ListN.{length};
 ghost use Rattle.word.specs.Bytes.{xorFrom};
-ghost use Rattle.sponge.specs.Mode.{row};
+ghost use Rattle.mode.specs.Mode.{row};
 ghost use Rattle.sponge.specs.Sponge.{flipIf};
 ghost use Rattle.sponge.specs.Record as spec;
 ghost use Rattle.sponge.specs.Parts.{filled};

@@ -1,9 +1,9 @@
 // Drawing: output is squeezed block by block into what the caller lends.
 use super::Record;
-use crate::mode::Mode;
+use mode::Mode;
 ghost use mathlib.Core.Path.{_≡_};
 ghost use lib.ListN.{length};
-ghost use Rattle.sponge.specs.Mode.{row};
+ghost use Rattle.mode.specs.Mode.{row};
 ghost use Rattle.sponge.specs.Record as spec;
 ghost use Rattle.sponge.specs.Parts.{used};
 

@@ -7,12 +7,12 @@ use native.Mathlib.Nat.{add-zero, mod-lt}
 use native.Mathlib.Omega.{arith}
 use borrow.Author.Needs.{needs}
 use lib.ListN.{length, take, drop, drop-of-length-le, length-take, length-drop}
-use Rattle.sponge.specs.declared.mode.Mode.{Mode}
+use Rattle.mode.specs.declared.Mode.{Mode}
 use Rattle.sponge.specs.declared.record.Record.{Record}
-use Rattle.sponge.specs.Mode.{row}
+use Rattle.mode.specs.Mode.{row}
 use Rattle.sponge.specs.Record.{sum64, withFed, feedBytes, absorbed}
 use Rattle.sponge.specs.Parts.{filled}
-use Rattle.sponge.proofs.Modes.{rates}
+use Rattle.mode.proofs.Modes.{rates}
 use Rattle.sponge.proofs.Places.{block-end}
 use Rattle.sponge.proofs.Parts.{filled-mode, feed-next}
 use Rattle.sponge.proofs.record.Record.absorb.Statement.{statement}

@@ -3,7 +3,7 @@
 use mathlib.Core.Path.{_≡_, ap, _∙_}
 use Prim.Native.Nat.{ℕ, _%_}
 use Rattle.word.specs.Bytes.{xorAt}
-use Rattle.sponge.specs.Mode.{row}
+use Rattle.mode.specs.Mode.{row}
 use Rattle.sponge.specs.Record.{afterRun, inWords, endFeeding}
 use borrow.Author.Needs.{needs}
 use Rattle.sponge.proofs.record.Record.end_feeding.Statement.{statement}

@@ -8,10 +8,10 @@ use borrow.Author.Tests.{eq-eqb, ne-eqb}
 use denote.Ref.{now}
 use lib.Dec.{eqb}
 use lib.ListN.{length}
-use Rattle.sponge.specs.Mode.{row}
+use Rattle.mode.specs.Mode.{row}
 use Rattle.sponge.specs.Record.{inWords, runIf}
 use Rattle.sponge.specs.Parts.{filled}
-use Rattle.sponge.proofs.Modes.{rates}
+use Rattle.mode.proofs.Modes.{rates}
 use borrow.Author.Needs.{needs}
 use Rattle.sponge.proofs.record.Record.fill.Statement.{statement}
 use Rattle.sponge.proofs.record.Record.fill.Tie as tie

@@ -2,7 +2,7 @@
 -- Assumes nothing.
 use mathlib.Core.Path.{sym, ap, _∙_}
 use mathlib.Core.Bool.{Bool, cond}
-use Rattle.sponge.specs.Mode.{row}
+use Rattle.mode.specs.Mode.{row}
 use Rattle.sponge.specs.Record.{endFeeding, finished}
 use borrow.Author.Needs.{needs}
 use Rattle.sponge.proofs.record.Record.finish.Statement.{statement}

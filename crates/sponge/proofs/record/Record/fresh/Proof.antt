@@ -8,7 +8,7 @@ use lib.ListN.{take}
 use lib.Seq.{length-take-le}
 use Rattle.word.specs.Bytes.{xorFrom}
 use Rattle.word.proofs.Lists.{take-min}
-use Rattle.sponge.specs.Mode.{row}
+use Rattle.mode.specs.Mode.{row}
 use Rattle.sponge.specs.Sponge.{initial}
 use Rattle.sponge.specs.Record.{fresh}
 use borrow.Author.Needs.{needs}

@@ -8,10 +8,10 @@ use lib.ListN.{length, take, drop, length-drop}
 use lib.Seq.{length-take-le}
 use Rattle.word.specs.Bytes.{bytesFrom}
 use Rattle.sponge.specs.declared.record.Record.{Record}
-use Rattle.sponge.specs.Mode.{row}
+use Rattle.mode.specs.Mode.{row}
 use Rattle.sponge.specs.Record.{sum64, withDrawn, drawnBytes, afterDrawing, nextBytes, squeezed}
 use Rattle.sponge.specs.Parts as parts
-use Rattle.sponge.proofs.Modes.{rates}
+use Rattle.mode.proofs.Modes.{rates}
 use Rattle.sponge.proofs.Parts.{Squeezing, used-within, front-written, squeeze-rest, squeeze-block, squeeze-all}
 use Rattle.sponge.proofs.record.Record.squeeze.Statement.{statement}
 use Rattle.sponge.proofs.record.Record.squeeze.Tie as tie

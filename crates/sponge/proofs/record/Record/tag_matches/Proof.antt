@@ -8,7 +8,7 @@ use borrow.Author.Count.{below-none, below-more}
 use lib.Bits.{bitXor, bitOr, xor-self}
 use lib.ListN.{length, getD}
 use Rattle.word.proofs.Bits.{xor-none, or-none}
-use Rattle.sponge.specs.Mode.{row}
+use Rattle.mode.specs.Mode.{row}
 use Rattle.sponge.specs.Record.{block, tagMatches}
 use Rattle.sponge.proofs.Tags.{SameBelow, too-long, judged}
 use Rattle.sponge.proofs.record.Record.tag_matches.Statement.{statement}

@@ -1,7 +1,7 @@
 -- `sponge::record::absorb::feed_place` meets its contract.
 -- Assumes nothing.
 use native.Mathlib.Omega.{arith}
-use Rattle.sponge.proofs.Modes.{rates}
+use Rattle.mode.proofs.Modes.{rates}
 use borrow.Author.Needs.{needs}
 use Rattle.sponge.proofs.record.absorb.feed_place.Statement.{statement}
 use Rattle.sponge.proofs.record.absorb.feed_place.Tie as tie

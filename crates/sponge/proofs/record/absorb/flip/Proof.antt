@@ -2,7 +2,7 @@
 -- Assumes nothing.
 use mathlib.Core.Path.{_≡_, sym, _∙_}
 use mathlib.Core.Bool.{true, false}
-use Rattle.sponge.specs.Mode.{row}
+use Rattle.mode.specs.Mode.{row}
 use Rattle.sponge.specs.Sponge.{flipIf}
 use borrow.Author.Needs.{needs}
 use Rattle.sponge.proofs.record.absorb.flip.Statement.{statement}

@@ -5,7 +5,7 @@ use native.Mathlib.Nat.{mod-lt}
 use native.Mathlib.Omega.{arith}
 use borrow.Author.Tests.{eq-eqb, ne-eqb}
 use Rattle.sponge.specs.Parts.{used}
-use Rattle.sponge.proofs.Modes.{rates}
+use Rattle.mode.proofs.Modes.{rates}
 use borrow.Author.Needs.{needs}
 use Rattle.sponge.proofs.record.squeeze.used_of_block.Statement.{statement}
 use Rattle.sponge.proofs.record.squeeze.used_of_block.Tie as tie

@@ -1,0 +1,139 @@
+// The modes, with the table of document 01's "Four modes" as associated constants. A column of the table is a method.
+ghost use mathlib.Core.Path.{_≡_};
+ghost use Rattle.mode.specs.Mode.{numberOf, named, row};
+
+pub enum Mode {
+    Prf,
+    Mac,
+    Hash,
+    Xof,
+}
+
+// What a number names: one of document 01's modes, or none.
+pub enum Named {
+    Is(Mode),
+    NoMode,
+}
+
+impl Mode {
+    pub const KEYED_FEED_RATE: usize = 32;
+
+    pub const KEYED_DRAW_RATE: usize = 16;
+
+    pub const UNKEYED_RATE: usize = 8;
+
+    pub const PRF_START: u64 = 0x8080_8c00_0000_0000;
+
+    pub const MAC_START: u64 = 0x8080_8c00_0000_0080;
+
+    pub const HASH_START: u64 = 0x0040_0c00_0000_0100;
+
+    pub const XOF_START: u64 = 0x0040_0c00_0000_0000;
+
+    pub const KEY_LENGTH: usize = 16;
+
+    pub const NO_KEY: usize = 0;
+
+    pub const LONG_OUTPUT: usize = 1_048_576;
+
+    pub const MAC_OUTPUT: usize = 16;
+
+    pub const HASH_OUTPUT: usize = 32;
+
+    // The paper's number of the mode.
+    pub fn number(self) -> u32
+        ensures { λ r. ⌜ r ≡ numberOf self ⌝ }
+    {
+        match self {
+            Mode::Prf => 1,
+            Mode::Mac => 2,
+            Mode::Hash => 3,
+            Mode::Xof => 4,
+        }
+    }
+
+    // The mode that a number names. A number that is not 1 to 4 names none.
+    pub fn of_number(number: u32) -> Named
+        ensures { λ r. ⌜ r ≡ named number ⌝ }
+    {
+        match number {
+            1 => Named::Is(Mode::Prf),
+            2 => Named::Is(Mode::Mac),
+            3 => Named::Is(Mode::Hash),
+            4 => Named::Is(Mode::Xof),
+            _ => Named::NoMode,
+        }
+    }
+
+    // R: so many bytes are fed to a block.
+    pub fn feed_rate(self) -> usize
+        ensures { λ r. ⌜ r ≡ row self .feedRate ⌝ }
+    {
+        match self {
+            Mode::Prf => Mode::KEYED_FEED_RATE,
+            Mode::Mac => Mode::KEYED_FEED_RATE,
+            Mode::Hash => Mode::UNKEYED_RATE,
+            Mode::Xof => Mode::UNKEYED_RATE,
+        }
+    }
+
+    // r: so many bytes are drawn from a block.
+    pub fn draw_rate(self) -> usize
+        ensures { λ r. ⌜ r ≡ row self .drawRate ⌝ }
+    {
+        match self {
+            Mode::Prf => Mode::KEYED_DRAW_RATE,
+            Mode::Mac => Mode::KEYED_DRAW_RATE,
+            Mode::Hash => Mode::UNKEYED_RATE,
+            Mode::Xof => Mode::UNKEYED_RATE,
+        }
+    }
+
+    // The first word of the start.
+    pub fn start_word(self) -> u64
+        ensures { λ r. ⌜ r ≡ row self .startWord ⌝ }
+    {
+        match self {
+            Mode::Prf => Mode::PRF_START,
+            Mode::Mac => Mode::MAC_START,
+            Mode::Hash => Mode::HASH_START,
+            Mode::Xof => Mode::XOF_START,
+        }
+    }
+
+    // The length of the key, 0 where there is none.
+    pub fn key_length(self) -> usize
+        ensures { λ r. ⌜ r ≡ row self .keyLength ⌝ }
+    {
+        match self {
+            Mode::Prf => Mode::KEY_LENGTH,
+            Mode::Mac => Mode::KEY_LENGTH,
+            Mode::Hash => Mode::NO_KEY,
+            Mode::Xof => Mode::NO_KEY,
+        }
+    }
+
+    // At most so many bytes are drawn in all. The hub holds its tickets to it; a record does not know it.
+    pub fn most_drawn(self) -> usize
+        ensures { λ r. ⌜ r ≡ row self .mostDrawn ⌝ }
+    {
+        match self {
+            Mode::Prf => Mode::LONG_OUTPUT,
+            Mode::Mac => Mode::MAC_OUTPUT,
+            Mode::Hash => Mode::HASH_OUTPUT,
+            Mode::Xof => Mode::LONG_OUTPUT,
+        }
+    }
+
+    // Whether the lowest bit of x4 is flipped before the run of the last block.
+    pub fn flips(self) -> bool
+        ensures { λ r. ⌜ r ≡ row self .flips ⌝ }
+    {
+        match self {
+            Mode::Prf => true,
+            Mode::Mac => true,
+            Mode::Hash => false,
+            Mode::Xof => false,
+        }
+    }
+}
