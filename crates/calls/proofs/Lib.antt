@@ -10,3 +10,8 @@ pub mod Readings
 pub mod Tickets
 pub mod Sums
 pub mod Law
+pub mod Apart
+pub mod Refusals
+pub mod Verdict
+pub mod Judging
+pub mod Boundaries

@@ -1,0 +1,123 @@
+-- The checks at their boundaries, computed by the checker on the plain machine. The hub and the plain machine answer by the same lists of checks; the answers
+-- here are written out from document 01's "Tickets" and "Refused", so that another order, number or limit changes one of them.
+-- Assumes nothing.
+use mathlib.Core.Bool.{Bool}
+use mathlib.Core.Path.{_≡_, refl}
+use mathlib.Core.List.{List, [], _∷_, map}
+use Prim.Native.Nat.{ℕ}
+use lib.ListN.{length, replicate}
+use Rattle.mode.specs.declared.Mode.the-variants.{Mac}
+use Rattle.mode.specs.Mode.{row, named}
+use Rattle.sponge.specs.Sponge.{ceiling, start, oneShot, runsFeeding, runsEnded}
+use Rattle.sponge.specs.Record.{same}
+use Rattle.calls.specs.declared.Answer.{Answer}
+use Rattle.calls.specs.Answer.{refused, opened, counted, judged, summed}
+use Rattle.calls.specs.Checks.{openChecks, ticketChecks, feedChecks, drawChecks, checkChecks, written}
+use Rattle.calls.specs.Call.{Call, Open, Feed, Draw, Check, Close, Sum, Event, events}
+use Rattle.calls.specs.Keyed.{find, total}
+use Rattle.calls.specs.Machine.{emptyMachine, formula, runsOf, outputOf, newEntry, afterFeed, afterDraw, afterClose, placeOf, entryOf, standingOf, put}
+use Rattle.calls.specs.Machine.{openCount, admit, openMachine, feedMachine, drawMachine, checkMachine, closeMachine, sumMachine, machine}
+
+-- a list of calls, each with an answer
+abbrev Table : Type 0
+Table = List (Call × Answer)
+
+-- these are what the plain machine answers
+abbrev Answered : Table → Type 0
+Answered rows =
+    map (λ (e : Event). e .response .answer) (events machine emptyMachine (map (λ (r : Call × Answer). r .0) rows)) ≡ map (λ (r : Call × Answer). r .1) rows
+
+-- n bytes
+abbrev zeros : ℕ → List ℕ
+zeros n = replicate n 0
+
+-- document 01's script
+abbrev script : Table
+script =
+    (Open 3 [], opened 1 1) ∷ (Feed 1 (1 ∷ 2 ∷ 3 ∷ 4 ∷ 5 ∷ 6 ∷ 7 ∷ 8 ∷ []), counted 2) ∷ (Draw 1 [] 0 0, counted 3) ∷ (Close 1, counted 3)
+    ∷ (Feed 1 (9 ∷ []), refused 12) ∷ (Sum, summed 3) ∷ []
+
+abbrev opening : Table
+opening =
+    -- a number that names no mode, with any key
+    (Open 0 [], refused 1) ∷ (Open 0 (zeros 16), refused 1) ∷ (Open 5 [], refused 1) ∷ (Open 5 (zeros 16), refused 1)
+    -- a key of 16 bytes for modes 1 and 2
+    ∷ (Open 1 [], refused 2) ∷ (Open 1 (zeros 15), refused 2) ∷ (Open 1 (zeros 17), refused 2) ∷ (Open 1 (zeros 16), opened 1 1)
+    ∷ (Open 2 [], refused 2) ∷ (Open 2 (zeros 15), refused 2) ∷ (Open 2 (zeros 17), refused 2) ∷ (Open 2 (zeros 16), opened 2 1)
+    -- and none for modes 3 and 4
+    ∷ (Open 3 (zeros 1), refused 2) ∷ (Open 3 (zeros 16), refused 2) ∷ (Open 3 [], opened 3 1)
+    ∷ (Open 4 (zeros 1), refused 2) ∷ (Open 4 (zeros 16), refused 2) ∷ (Open 4 [], opened 4 1)
+    -- up to sixteen
+    ∷ (Open 3 [], opened 5 1) ∷ (Open 3 [], opened 6 1) ∷ (Open 3 [], opened 7 1) ∷ (Open 3 [], opened 8 1)
+    ∷ (Open 4 [], opened 9 1) ∷ (Open 4 [], opened 10 1) ∷ (Open 4 [], opened 11 1) ∷ (Open 4 [], opened 12 1)
+    ∷ (Open 3 [], opened 13 1) ∷ (Open 3 [], opened 14 1) ∷ (Open 3 [], opened 15 1) ∷ (Open 3 [], opened 16 1)
+    -- no seventeenth; 1 and 2 before 13
+    ∷ (Open 1 (zeros 16), refused 13) ∷ (Open 3 [], refused 13) ∷ (Open 5 [], refused 1) ∷ (Open 1 [], refused 2) ∷ (Open 3 (zeros 16), refused 2)
+    -- a place serves again, a number does not
+    ∷ (Close 5, counted 1) ∷ (Close 5, refused 12) ∷ (Open 4 [], opened 17 1) ∷ (Open 4 [], refused 13) ∷ (Close 5, refused 12) ∷ (Close 18, refused 11)
+    ∷ (Close 17, counted 1) ∷ (Open 3 [], opened 18 1) ∷ (Close 18, counted 1) ∷ (Close 18, refused 12) ∷ (Sum, summed 18) ∷ []
+
+abbrev feeding : Table
+feeding =
+    -- no ticket is issued: 11 before every other number
+    (Feed 0 [], refused 11) ∷ (Feed 1 [], refused 11) ∷ (Draw 1 [] 0 1, refused 11) ∷ (Check 1 [], refused 11) ∷ (Close 0, refused 11) ∷ (Close 1, refused 11)
+    ∷ (Open 3 [], opened 1 1) ∷ (Feed 0 [], refused 11) ∷ (Feed 2 [], refused 11)
+    -- zero bytes are accepted while feeding lasts; a block of 8
+    ∷ (Feed 1 [], counted 1) ∷ (Feed 1 (zeros 7), counted 1) ∷ (Feed 1 (zeros 1), counted 2) ∷ (Feed 1 [], counted 2)
+    -- a draw of no bytes ends feeding
+    ∷ (Draw 1 [] 0 0, counted 3) ∷ (Feed 1 [], refused 15) ∷ (Feed 1 (zeros 1), refused 15)
+    -- a block of 32
+    ∷ (Open 1 (zeros 16), opened 2 1) ∷ (Feed 2 (zeros 31), counted 1) ∷ (Feed 2 (zeros 1), counted 2) ∷ (Feed 2 (zeros 32), counted 3)
+    -- a refused draw or check does not end feeding
+    ∷ (Draw 2 [] 0 1, refused 3) ∷ (Check 2 (zeros 16), refused 18) ∷ (Feed 2 [], counted 3)
+    -- 12 before 15
+    ∷ (Close 1, counted 3) ∷ (Feed 1 [], refused 12) ∷ (Close 1, refused 12) ∷ (Feed 2 [], counted 3) ∷ (Close 2, counted 3) ∷ (Feed 2 [], refused 12)
+    ∷ (Feed 3 [], refused 11) ∷ (Sum, summed 6) ∷ []
+
+abbrev drawing : Table
+drawing =
+    (Open 3 [], opened 1 1) ∷ (Open 2 (zeros 16), opened 2 1) ∷ (Open 1 (zeros 16), opened 3 1)
+    -- 11 before 3
+    ∷ (Draw 0 [] 0 1, refused 11) ∷ (Draw 4 [] 0 1, refused 11)
+    -- place + count is the buffer's length, and more
+    ∷ (Draw 1 (zeros 4) 2 3, refused 3) ∷ (Draw 1 (zeros 4) 3 2, refused 3) ∷ (Draw 1 (zeros 4) 5 0, refused 3) ∷ (Draw 1 (zeros 4) 18446744073709551615 2, refused 3)
+    ∷ (Feed 1 [], counted 1) ∷ (Draw 1 (zeros 4) 4 0, counted 2) ∷ (Draw 1 (zeros 4) 2 2, counted 2)
+    -- of a hash 32 bytes in all; 3 before 17
+    ∷ (Draw 1 (zeros 40) 0 31, refused 17) ∷ (Draw 1 (zeros 40) 0 30, counted 5) ∷ (Draw 1 (zeros 40) 0 1, refused 17) ∷ (Draw 1 [] 0 0, counted 5)
+    ∷ (Draw 1 [] 0 1, refused 3) ∷ (Open 3 [], opened 4 1) ∷ (Draw 4 (zeros 33) 0 33, refused 17) ∷ (Draw 4 (zeros 33) 1 32, counted 5)
+    -- of a MAC 16
+    ∷ (Draw 2 (zeros 17) 0 17, refused 17) ∷ (Draw 2 (zeros 16) 0 17, refused 3) ∷ (Feed 2 [], counted 1) ∷ (Draw 2 (zeros 17) 1 16, counted 2) ∷ (Draw 2 (zeros 1) 0 1, refused 17)
+    -- no run is made until a byte beyond the block is drawn
+    ∷ (Draw 3 (zeros 16) 0 16, counted 2) ∷ (Draw 3 (zeros 1) 0 1, counted 3)
+    -- 12 before 3 and 17
+    ∷ (Close 1, counted 5) ∷ (Draw 1 [] 0 1, refused 12) ∷ (Draw 1 (zeros 1) 0 1, refused 12) ∷ (Sum, summed 15) ∷ []
+
+-- whether a tag is the MAC of no bytes under the key of zeros: left as it is, no run is computed
+abbrev verdict : List ℕ → Bool
+verdict tag = same tag (oneShot (row Mac) (zeros 16) [] (length tag))
+
+abbrev checking : Table
+checking =
+    (Open 2 (zeros 16), opened 1 1) ∷ (Open 1 (zeros 16), opened 2 1) ∷ (Open 3 [], opened 3 1) ∷ (Open 4 [], opened 4 1)
+    -- 11 before 18 and 4
+    ∷ (Check 0 (zeros 7), refused 11) ∷ (Check 5 (zeros 7), refused 11)
+    -- only of mode 2; 18 before 4
+    ∷ (Check 2 (zeros 16), refused 18) ∷ (Check 3 (zeros 16), refused 18) ∷ (Check 4 (zeros 16), refused 18) ∷ (Check 2 (zeros 7), refused 18) ∷ (Check 3 (zeros 17), refused 18)
+    -- a tag of 8 to 16 bytes
+    ∷ (Check 1 [], refused 4) ∷ (Check 1 (zeros 7), refused 4) ∷ (Check 1 (zeros 17), refused 4)
+    ∷ (Feed 1 [], counted 1) ∷ (Check 1 (zeros 8), judged (verdict (zeros 8)) 2) ∷ (Check 1 (zeros 16), judged (verdict (zeros 16)) 2)
+    -- an accepted check ends feeding, and draws nothing
+    ∷ (Feed 1 [], refused 15) ∷ (Draw 1 (zeros 17) 0 17, refused 17) ∷ (Draw 1 (zeros 16) 0 16, counted 2)
+    -- 12 before 18 and 4
+    ∷ (Close 1, counted 2) ∷ (Check 1 (zeros 7), refused 12) ∷ (Close 2, counted 1) ∷ (Check 2 (zeros 16), refused 12) ∷ (Sum, summed 5) ∷ []
+
+pub boundaries : Answered script × Answered opening × Answered feeding × Answered drawing × Answered checking
+unfolding events machine emptyMachine openMachine openChecks named row admit newEntry runsOf formula runsFeeding runsEnded ceiling start openCount total feedMachine drawMachine checkMachine closeMachine ticketChecks feedChecks drawChecks checkChecks standingOf entryOf placeOf find afterFeed afterDraw afterClose put sumMachine outputOf
+boundaries = (refl, refl, refl, refl, refl)
+
+-- bytes written into a buffer
+pub writing : (written (1 ∷ 2 ∷ 3 ∷ 4 ∷ 5 ∷ []) 1 (8 ∷ 9 ∷ []) ≡ 1 ∷ 8 ∷ 9 ∷ 4 ∷ 5 ∷ [])
+    × (written (1 ∷ 2 ∷ 3 ∷ []) 3 [] ≡ 1 ∷ 2 ∷ 3 ∷ [])
+    × (written (1 ∷ 2 ∷ []) 0 (8 ∷ 9 ∷ []) ≡ 8 ∷ 9 ∷ [])
+unfolding written
+writing = (refl, refl, refl)

@@ -1,0 +1,59 @@
+-- One ticket's bytes and verdicts on the plain machine: the MAC of no bytes under the key 00 01 .. 0f, which the checker computes, drawn in parts and checked.
+-- Assumes nothing.
+use mathlib.Core.Bool.{true, false}
+use mathlib.Core.Path.{_≡_, refl, sym, ap, _∙_}
+use mathlib.Core.List.{List, [], _∷_, map}
+use Prim.Native.Nat.{ℕ}
+use native.Mathlib.Omega.{arith}
+use lib.ListN.{getD, take}
+use Rattle.word.specs.Word.{bit, word, number, column, rotr}
+use Rattle.word.specs.Bytes.{weight, byteAt, bytesFrom, xorWord, xorAt, xorFrom}
+use Rattle.permutation.specs.Permutation.{sbox, addConstant, atEveryPlace, substitute, mix, diffuse, round, permute}
+use Rattle.mode.specs.declared.Mode.the-variants.{Mac}
+use Rattle.mode.specs.Mode.{row, named}
+use Rattle.sponge.specs.Sponge.{ceiling, initial, start, pad, cut, blocks, flipIf, absorbBlocks, absorbMessage, squeezeBlocks, squeezeBytes, output, oneShot, runsFeeding, runsEnded}
+use Rattle.sponge.specs.Record.{same}
+use Rattle.sponge.proofs.Tags.{equal-same, other-same}
+use Rattle.calls.specs.Answer.{opened, judged}
+use Rattle.calls.specs.Checks.{openChecks, ticketChecks, drawChecks, checkChecks, written}
+use Rattle.calls.specs.Call.{Open, Draw, Check, Event, events}
+use Rattle.calls.specs.Keyed.{find, total}
+use Rattle.calls.specs.Machine.{emptyMachine, formula, runsOf, outputOf, newEntry, afterDraw, placeOf, entryOf, standingOf, put}
+use Rattle.calls.specs.Machine.{openCount, admit, openMachine, drawMachine, checkMachine, machine}
+use Rattle.calls.proofs.Verdict.{macOf, mac-begins}
+
+abbrev key : List ℕ
+key = 0 ∷ 1 ∷ 2 ∷ 3 ∷ 4 ∷ 5 ∷ 6 ∷ 7 ∷ 8 ∷ 9 ∷ 10 ∷ 11 ∷ 12 ∷ 13 ∷ 14 ∷ 15 ∷ []
+
+abbrev tag : List ℕ
+tag = 0xeb ∷ 0x1a ∷ 0xf6 ∷ 0x88 ∷ 0x82 ∷ 0x5d ∷ 0x66 ∷ 0xbf ∷ 0x2d ∷ 0x53 ∷ 0xe1 ∷ 0x35 ∷ 0xf9 ∷ 0x32 ∷ 0x33 ∷ 0x15 ∷ []
+
+-- the tag with another last byte
+abbrev other : List ℕ
+other = 0xeb ∷ 0x1a ∷ 0xf6 ∷ 0x88 ∷ 0x82 ∷ 0x5d ∷ 0x66 ∷ 0xbf ∷ 0x2d ∷ 0x53 ∷ 0xe1 ∷ 0x35 ∷ 0xf9 ∷ 0x32 ∷ 0x33 ∷ 0x14 ∷ []
+
+mac : macOf key [] ≡ tag
+unfolding row oneShot output squeezeBytes squeezeBlocks absorbMessage absorbBlocks flipIf blocks cut pad start initial ceiling xorFrom xorAt xorWord bytesFrom byteAt weight permute round diffuse substitute atEveryPlace sbox addConstant mix rotr column number word bit
+mac = refl
+
+-- a check passes for the tag, and for its first 8 bytes
+pub judging : map (λ (e : Event). e .response .answer) (events machine emptyMachine (Open 2 key ∷ Check 1 tag ∷ Check 1 other ∷ Check 1 (take 8 tag) ∷ []))
+    ≡ opened 1 1 ∷ judged true 2 ∷ judged false 2 ∷ judged true 2 ∷ []
+unfolding events machine emptyMachine openMachine openChecks named row admit newEntry runsOf formula runsFeeding runsEnded ceiling start openCount total checkMachine ticketChecks checkChecks standingOf entryOf placeOf find afterDraw put outputOf
+judging = λ i. opened 1 1 ∷ judged (right i) 2 ∷ judged (wrong i) 2 ∷ judged (short i) 2 ∷ []
+  where
+    right : same tag (macOf key []) ≡ true
+    right = equal-same tag (macOf key []) (sym mac)
+
+    wrong : same other (macOf key []) ≡ false
+    wrong = other-same other (macOf key []) (λ e. absurd (omega (arith, ap (λ (l : List ℕ). getD l 15 0) (e ∙ mac))))
+
+    short : same (take 8 tag) (oneShot (row Mac) key [] 8) ≡ true
+    short = equal-same (take 8 tag) (oneShot (row Mac) key [] 8) (sym (mac-begins key [] 8 (omega arith) ∙ ap (take 8) mac))
+
+-- a draw writes from place on the bytes that come next, and keeps the buffer's others; a refused one writes nothing
+pub drawn-bytes : map (λ (e : Event). e .response .buffer)
+    (events machine emptyMachine (Open 2 key ∷ Draw 1 (1 ∷ 2 ∷ 3 ∷ 4 ∷ 5 ∷ []) 1 3 ∷ Draw 1 (1 ∷ 2 ∷ 3 ∷ []) 2 2 ∷ Draw 1 (1 ∷ 2 ∷ 3 ∷ []) 0 2 ∷ []))
+    ≡ [] ∷ (1 ∷ 0xeb ∷ 0x1a ∷ 0xf6 ∷ 5 ∷ []) ∷ (1 ∷ 2 ∷ 3 ∷ []) ∷ (0x88 ∷ 0x82 ∷ 3 ∷ []) ∷ []
+unfolding events machine emptyMachine openMachine openChecks named row admit newEntry openCount total drawMachine ticketChecks drawChecks standingOf entryOf placeOf find afterDraw put written outputOf oneShot output squeezeBytes squeezeBlocks absorbMessage absorbBlocks flipIf blocks cut pad start initial ceiling xorFrom xorAt xorWord bytesFrom byteAt weight permute round diffuse substitute atEveryPlace sbox addConstant mix rotr column number word bit
+drawn-bytes = refl

@@ -1,0 +1,164 @@
+-- Which check answers: the orders of document 01's "Tickets" and the numbers and limits of "Refused", for any values, lists of calls being too short for some.
+-- For each list of checks the laws take all cases, one after the other in the list's order. What is answered is any function of the number.
+-- Assumes nothing.
+use mathlib.Core.Bool.{Bool, true, false, cond, or-true}
+use mathlib.Core.Path.{_≡_, refl}
+use mathlib.Core.Logic.{_≢_}
+use mathlib.Core.List.{List, []}
+use Prim.Native.Nat.{ℕ, _+_, _≤_, _<_}
+use native.Mathlib.Omega.{arith}
+use borrow.Author.Tests.{lt-ltb, le-ltb, le-leb, lt-leb, eq-eqb, ne-eqb}
+use lib.Dec.{leb}
+use lib.ListN.{length}
+use Rattle.mode.specs.declared.Mode.{Mode}
+use Rattle.mode.specs.declared.Mode.the-variants.{Prf, Mac, Hash, Xof}
+use Rattle.mode.specs.declared.Named.the-variants.{Is, NoMode}
+use Rattle.mode.specs.Mode.{row, numberOf}
+use Rattle.mode.proofs.Modes.{named-number}
+use Rattle.calls.specs.Call.{refuse}
+use Rattle.calls.specs.Checks.{Check, checked, mostOpen, Standing, openChecks, ticketChecks, feedChecks, drawChecks, checkChecks}
+use Rattle.calls.specs.Machine.{Machine, openCount, admit, openMachine}
+use Rattle.calls.proofs.Checks.{never-issued, is-closed}
+
+-- at most so many bytes are drawn
+abbrev pub most : Mode → ℕ
+most Prf = 1048576
+most Mac = 16
+most Hash = 32
+most Xof = 1048576
+
+most-drawn : (mode : Mode) → row mode .mostDrawn ≡ most mode
+unfolding row
+most-drawn Prf = refl
+most-drawn Mac = refl
+most-drawn Hash = refl
+most-drawn Xof = refl
+
+-- the standing of an open ticket
+abbrev pub openStanding : Mode → Bool → ℕ → ℕ → Standing
+openStanding mode feeding fed drawn = record { issued = true; isOpen = true; mode = mode; feeding = feeding; fed = fed; drawn = drawn }
+
+module _ {A : Type 0} (answer : ℕ → A) (done : A) where
+  -- what a list of checks comes to
+  abbrev pub outcome : List Check → A
+  outcome cs = checked answer cs done
+
+  -- ---- open: 1, 2, 14, 13
+
+  module _ (key : List ℕ) (issued : ℕ) (full : Bool) where
+    -- whatever the key
+    pub open-1 : outcome (openChecks NoMode key issued full) ≡ answer 1
+    unfolding openChecks
+    open-1 = refl
+
+    -- however many are issued and open
+    pub open-2 : (mode : Mode) → length key ≢ row mode .keyLength → outcome (openChecks (Is mode) key issued full) ≡ answer 2
+    unfolding openChecks
+    open-2 mode wrong = rw (ne-eqb (length key) (row mode .keyLength) wrong)
+
+    -- whether there is a place or not
+    pub open-14 : (mode : Mode) → length key ≡ row mode .keyLength → 4294967295 ≤ issued → outcome (openChecks (Is mode) key issued full) ≡ answer 14
+    unfolding openChecks
+    open-14 mode right all = rw (eq-eqb (length key) (row mode .keyLength) right, le-leb 4294967295 issued all)
+
+    -- as long as a number is left
+    pub open-13 : (mode : Mode) → length key ≡ row mode .keyLength → issued < 4294967295
+        → outcome (openChecks (Is mode) key issued full) ≡ cond full (answer 13) done
+    unfolding openChecks
+    open-13 mode right room = rw (eq-eqb (length key) (row mode .keyLength) right, lt-leb 4294967295 issued room)
+
+  -- ---- a call on a ticket: 11, 12
+
+  -- a list of checks begins with these
+  abbrev pub Begins : (Standing → List Check) → Type 0
+  Begins cs =
+      (s : Standing)
+      → (s .issued ≡ false → outcome (cs s) ≡ answer 11)
+      × (s .issued ≡ true → s .isOpen ≡ false → outcome (cs s) ≡ answer 12)
+
+  pub feed-begins : (bytes : List ℕ) → Begins (λ (s : Standing). feedChecks s bytes)
+  unfolding feedChecks
+  feed-begins bytes s = (never-issued answer s _ done, is-closed answer s _ done)
+
+  pub draw-begins : (buffer : List ℕ) (place count : ℕ) → Begins (λ (s : Standing). drawChecks s buffer place count)
+  unfolding drawChecks
+  draw-begins buffer place count s = (never-issued answer s _ done, is-closed answer s _ done)
+
+  pub check-begins : (tag : List ℕ) → Begins (λ (s : Standing). checkChecks s tag)
+  unfolding checkChecks
+  check-begins tag s = (never-issued answer s _ done, is-closed answer s _ done)
+
+  pub close-begins : Begins ticketChecks
+  unfolding ticketChecks
+  close-begins s = (never-issued answer s [] done, is-closed answer s [] done)
+
+  -- ---- a call on an open ticket
+
+  module _ (mode : Mode) (fed drawn : ℕ) where
+    -- feed: 15, 16. However many bytes, where feeding has ended
+    pub feed-15 : (bytes : List ℕ) → outcome (feedChecks (openStanding mode false fed drawn) bytes) ≡ answer 15
+    unfolding feedChecks ticketChecks
+    feed-15 bytes = refl
+
+    pub feed-16 : (bytes : List ℕ) → 16777216 < fed + length bytes → outcome (feedChecks (openStanding mode true fed drawn) bytes) ≡ answer 16
+    unfolding feedChecks ticketChecks
+    feed-16 bytes more = rw (lt-ltb 16777216 (fed + length bytes) more)
+
+    pub feed-done : (bytes : List ℕ) → fed + length bytes ≤ 16777216 → outcome (feedChecks (openStanding mode true fed drawn) bytes) ≡ done
+    unfolding feedChecks ticketChecks
+    feed-done bytes room = rw (le-ltb 16777216 (fed + length bytes) room)
+
+    -- draw: 3, 17, whether feeding lasts or not. 3 for any mode, however many bytes are drawn
+    module _ (feeding : Bool) (buffer : List ℕ) (place count : ℕ) where
+      pub draw-3 : length buffer < place + count → outcome (drawChecks (openStanding mode feeding fed drawn) buffer place count) ≡ answer 3
+      unfolding drawChecks ticketChecks
+      draw-3 past = rw (lt-ltb (length buffer) (place + count) past)
+
+      pub draw-17 : place + count ≤ length buffer → most mode < drawn + count → outcome (drawChecks (openStanding mode feeding fed drawn) buffer place count) ≡ answer 17
+      unfolding drawChecks ticketChecks
+      draw-17 fits more = rw (le-ltb (length buffer) (place + count) fits, most-drawn mode, lt-ltb (most mode) (drawn + count) more)
+
+      pub draw-done : place + count ≤ length buffer → drawn + count ≤ most mode → outcome (drawChecks (openStanding mode feeding fed drawn) buffer place count) ≡ done
+      unfolding drawChecks ticketChecks
+      draw-done fits room = rw (le-ltb (length buffer) (place + count) fits, most-drawn mode, le-ltb (most mode) (drawn + count) room)
+
+  -- check: 18, 4, whether feeding lasts or not. 18 for any tag
+  module _ (feeding : Bool) (fed drawn : ℕ) (tag : List ℕ) where
+    pub check-18 : (mode : Mode) → mode ≢ Mac → outcome (checkChecks (openStanding mode feeding fed drawn) tag) ≡ answer 18
+    unfolding checkChecks ticketChecks
+    check-18 Prf other = refl
+    check-18 Mac other = absurd (other refl)
+    check-18 Hash other = refl
+    check-18 Xof other = refl
+
+    pub check-4-short : length tag < 8 → outcome (checkChecks (openStanding Mac feeding fed drawn) tag) ≡ answer 4
+    unfolding checkChecks ticketChecks
+    check-4-short short = rw (lt-ltb (length tag) 8 short)
+
+    pub check-4-long : 16 < length tag → outcome (checkChecks (openStanding Mac feeding fed drawn) tag) ≡ answer 4
+    unfolding checkChecks ticketChecks
+    check-4-long long = rw (lt-ltb 16 (length tag) long, or-true)
+
+    pub check-done : 8 ≤ length tag → length tag ≤ 16 → outcome (checkChecks (openStanding Mac feeding fed drawn) tag) ≡ done
+    unfolding checkChecks ticketChecks
+    check-done low high = rw (le-ltb (length tag) 8 low, le-ltb 16 (length tag) high)
+
+    -- close
+    pub close-done : (mode : Mode) → outcome (ticketChecks (openStanding mode feeding fed drawn)) ≡ done
+    unfolding ticketChecks
+    close-done mode = refl
+
+-- ---- the last ticket, on the plain machine
+
+module _ (mode : Mode) (key : List ℕ) (m : Machine) (right : length key ≡ row mode .keyLength) where
+  -- all are issued, whether there is a place or not
+  pub all-issued : length (m .entries) ≡ 4294967295 → openMachine (numberOf mode) key m ≡ refuse m [] 14
+  unfolding openMachine
+  all-issued n =
+      rw named-number (open-14 (refuse m []) (admit (Is mode) key m) key (length (m .entries)) (leb mostOpen (openCount m)) mode right (omega arith))
+
+  -- one is left: it is issued unless 16 are open
+  pub one-left : length (m .entries) ≡ 4294967294 → openMachine (numberOf mode) key m ≡ cond (leb 16 (openCount m)) (refuse m [] 13) (admit (Is mode) key m)
+  unfolding openMachine
+  one-left n =
+      rw named-number (open-13 (refuse m []) (admit (Is mode) key m) key (length (m .entries)) (leb mostOpen (openCount m)) mode right (omega arith))
