@@ -16,8 +16,7 @@ use Rattle.mode.specs.Mode.{named}
 use Rattle.sponge.specs.Record.{same}
 use Rattle.calls.specs.declared.Answer.{Answer}
 use Rattle.calls.specs.Answer.{counted, judged}
-use Rattle.calls.specs.Checks.{Standing, mostOpen, checked, openChecks, ticketChecks, feedChecks, drawChecks, checkChecks, written}
-use Rattle.calls.specs.Checks as checks
+use Rattle.calls.specs.Checks.{OneCheck, Standing, mostOpen, checked, openChecks, ticketChecks, feedOwn, feedChecks, drawOwn, drawChecks, checkOwn, checkChecks, written}
 use Rattle.calls.specs.Call.{Call, Open, Feed, Draw, Check, Close, Sum, Response, Step, step, refuse, Event, events}
 use Rattle.calls.specs.Machine.{Entry, Machine, emptyMachine, runsOf, outputOf, newEntry, afterFeed, afterDraw, afterClose, entryOf, standingOf, put}
 use Rattle.calls.specs.Machine.{openCount, admit, openMachine, feedMachine, drawMachine, checkMachine, closeMachine, sumMachine, machine}
@@ -33,7 +32,7 @@ use Rattle.calls.proofs.Sound.{put-here, put-other, withNew, new-here, 
 -- the buffer that it lends, its checks after 11 and 12, and of an entry that passes them: what becomes of it, the answer and the buffer
 record Act : Type 0 where
   lent : List ℕ
-  further : Standing → List checks.Check
+  further : Standing → List OneCheck
   after : Entry → Entry
   answer : Entry → Answer
   buffer : Entry → List ℕ
@@ -45,11 +44,11 @@ idle = record { lent = []; further = λ s. []; after = λ e. e; answer = λ e. c
 abbrev actOf : Call → Act
 actOf (Open mode key) = idle
 actOf (Feed t bytes) =
-    record { lent = []; further = λ s. drop 2 (feedChecks s bytes); after = afterFeed bytes; answer = λ e. counted (runsOf (afterFeed bytes e)); buffer = λ e. [] }
+    record { lent = []; further = λ s. feedOwn s bytes; after = afterFeed bytes; answer = λ e. counted (runsOf (afterFeed bytes e)); buffer = λ e. [] }
 actOf (Draw t buffer place count) =
     record {
       lent = buffer;
-      further = λ s. drop 2 (drawChecks s buffer place count);
+      further = λ s. drawOwn s buffer place count;
       after = afterDraw count;
       answer = λ e. counted (runsOf (afterDraw count e));
       buffer = λ e. written buffer place (drop (e .drawn) (outputOf e (e .drawn + count)));
@@ -57,7 +56,7 @@ actOf (Draw t buffer place count) =
 actOf (Check t tag) =
     record {
       lent = [];
-      further = λ s. drop 2 (checkChecks s tag);
+      further = λ s. checkOwn s tag;
       after = afterDraw 0;
       answer = λ e. judged (same tag (outputOf (afterDraw 0 e) (length tag))) (runsOf (afterDraw 0 e));
       buffer = λ e. [];
@@ -77,7 +76,7 @@ keeps Sum e = refl
 
 -- ---- on an entry alone, and on a machine
 
-abbrev checksOf : Act → Standing → List checks.Check
+abbrev checksOf : Act → Standing → List OneCheck
 checksOf a s = ticketChecks s ++ a .further s
 
 abbrev onEntry : Act → Entry → Step Entry

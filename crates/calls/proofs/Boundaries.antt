@@ -12,7 +12,7 @@ use Rattle.sponge.specs.Sponge.{ceiling, start, oneShot, runsFeeding, runsEnded
 use Rattle.sponge.specs.Record.{same}
 use Rattle.calls.specs.declared.Answer.{Answer}
 use Rattle.calls.specs.Answer.{refused, opened, counted, judged, summed}
-use Rattle.calls.specs.Checks.{openChecks, ticketChecks, feedChecks, drawChecks, checkChecks, written}
+use Rattle.calls.specs.Checks.{openChecks, ticketChecks, feedOwn, feedChecks, drawOwn, drawChecks, checkOwn, checkChecks, written}
 use Rattle.calls.specs.Call.{Call, Open, Feed, Draw, Check, Close, Sum, Event, events}
 use Rattle.calls.specs.Keyed.{find, total}
 use Rattle.calls.specs.Machine.{emptyMachine, formula, runsOf, outputOf, newEntry, afterFeed, afterDraw, afterClose, placeOf, entryOf, standingOf, put}
@@ -112,7 +112,7 @@ checking =
     ∷ (Close 1, counted 2) ∷ (Check 1 (zeros 7), refused 12) ∷ (Close 2, counted 1) ∷ (Check 2 (zeros 16), refused 12) ∷ (Sum, summed 5) ∷ []
 
 pub boundaries : Answered script × Answered opening × Answered feeding × Answered drawing × Answered checking
-unfolding events machine emptyMachine openMachine openChecks named row admit newEntry runsOf formula runsFeeding runsEnded ceiling start openCount total feedMachine drawMachine checkMachine closeMachine ticketChecks feedChecks drawChecks checkChecks standingOf entryOf placeOf find afterFeed afterDraw afterClose put sumMachine outputOf
+unfolding events machine emptyMachine openMachine openChecks named row admit newEntry runsOf formula runsFeeding runsEnded ceiling start openCount total feedMachine drawMachine checkMachine closeMachine ticketChecks feedChecks feedOwn drawChecks drawOwn checkChecks checkOwn standingOf entryOf placeOf find afterFeed afterDraw afterClose put sumMachine outputOf
 boundaries = (refl, refl, refl, refl, refl)
 
 -- bytes written into a buffer

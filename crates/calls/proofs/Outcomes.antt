@@ -1,13 +1,13 @@
 -- What a call on a sound machine comes to: it is refused, a ticket is issued, the entry of an open ticket is changed, or the sum is given.
 -- Assumes nothing.
-use mathlib.Core.Bool.{Bool, true, false, not, _||_, cond}
+use mathlib.Core.Bool.{Bool, true, false, cond}
 use mathlib.Core.Path.{_≡_, refl, sym, ap, _∙_}
 use mathlib.Core.Logic.{_≢_}
 use mathlib.Core.List.{List, [], _∷_, _++_}
 use Prim.Native.Nat.{ℕ, _+_, _≤_, _<_}
 use native.Mathlib.Omega.{arith}
 use borrow.Author.Tests.{ltb-false, leb-false, not-false}
-use lib.Dec.{eqb, leb, ltb}
+use lib.Dec.{leb}
 use lib.ListN.{length, drop}
 use Rattle.mode.specs.declared.Mode.{Mode}
 use Rattle.mode.specs.declared.Mode.the-variants.{Prf, Mac, Hash, Xof}
@@ -18,8 +18,8 @@ use Rattle.sponge.specs.Record.{same}
 use Rattle.mode.proofs.Modes.{number-named}
 use Rattle.calls.specs.Answer.{opened, counted, judged}
 use Rattle.calls.specs.Call.{Call, Open, Feed, Draw, Check, Close, Sum, Step, step, refuse}
-use Rattle.calls.specs.Checks.{Check as OneCheck, Standing, mostIssued, mostFed, mostOpen, shortestTag, longestTag, refusal, checked}
-use Rattle.calls.specs.Checks.{openChecks, ticketChecks, feedChecks, drawChecks, checkChecks, written}
+use Rattle.calls.specs.Checks.{OneCheck, Standing, mostIssued, mostFed, mostOpen, checked}
+use Rattle.calls.specs.Checks.{openChecks, ticketChecks, feedOwn, feedChecks, drawOwn, drawChecks, checkOwn, checkChecks, written}
 use Rattle.calls.specs.Machine.{Entry, Machine, runsOf, outputOf, newEntry, afterFeed, afterDraw, afterClose, entryOf, standingOf, put, openCount, admit}
 use Rattle.calls.specs.Machine.{openMachine, feedMachine, drawMachine, checkMachine, closeMachine, sumMachine, machine}
 use Rattle.calls.proofs.Keyed.{all}
@@ -105,21 +105,21 @@ open-outcome n key m = go (named n) refl
     go NoMode h = refuses (Open n key) [] 1 (λ z. omega arith)
 
 pub outcome : (c : Call) (m : Machine) → Sound m → Outcome m c (machine c m)
-unfolding machine feedMachine drawMachine checkMachine closeMachine feedChecks drawChecks checkChecks ticketChecks
+unfolding machine feedMachine drawMachine checkMachine closeMachine feedChecks feedOwn drawChecks drawOwn checkChecks checkOwn ticketChecks
 outcome (Open n key) m s = open-outcome n key m
 outcome (Feed t bytes) m s =
-    ticket-outcome (Feed t bytes) t [] m s (λ x. refusal 15 (not (x .feeding)) ∷ refusal 16 (ltb mostFed (x .fed + length bytes)) ∷ [])
+    ticket-outcome (Feed t bytes) t [] m s (λ x. feedOwn x bytes)
     (λ e. step (put t (afterFeed bytes e) m) (counted (runsOf (afterFeed bytes e))) []) (λ x. (λ z. omega arith, (λ z. omega arith, tt)))
     (λ e o pass. feeds t bytes e o (not-false _ (pass .0)) (ltb-false _ _ (pass .1 .0)))
 outcome (Draw t buffer place count) m s =
     ticket-outcome (Draw t buffer place count) t buffer m s
-    (λ x. refusal 3 (ltb (length buffer) (place + count)) ∷ refusal 17 (ltb (row (x .mode) .mostDrawn) (x .drawn + count)) ∷ [])
+    (λ x. drawOwn x buffer place count)
     (λ e. step (put t (afterDraw count e) m) (counted (runsOf (afterDraw count e))) (written buffer place (drop (e .drawn) (outputOf e (e .drawn + count)))))
     (λ x. (λ z. omega arith, (λ z. omega arith, tt)))
     (λ e o pass. draws t buffer place count e o (ltb-false _ _ (pass .0)) (ltb-false _ _ (pass .1 .0)))
 outcome (Check t tag) m s =
     ticket-outcome (Check t tag) t [] m s
-    (λ x. refusal 18 (not (eqb (numberOf (x .mode)) 2)) ∷ refusal 4 (ltb (length tag) shortestTag || ltb longestTag (length tag)) ∷ [])
+    (λ x. checkOwn x tag)
     (λ e. step (put t (afterDraw 0 e) m) (judged (same tag (outputOf (afterDraw 0 e) (length tag))) (runsOf (afterDraw 0 e))) [])
     (λ x. (λ z. omega arith, (λ z. omega arith, tt)))
     (λ e o pass. checks t tag e o)

@@ -2,7 +2,7 @@
 -- Assumes nothing.
 use mathlib.Core.Path.{_≡_, sym, ap, _∙_}
 use mathlib.Core.List.{List, _++_}
-use Prim.Native.Nat.{ℕ, _+_}
+use Prim.Native.Nat.{ℕ, _+_, _≤_}
 use native.Mathlib.Omega.{arith}
 use lib.ListN.{length, take, drop, length-drop, take-append-drop}
 use Rattle.mode.specs.declared.Mode.{Mode}
@@ -22,11 +22,11 @@ module _ (mode : Mode) (key message : List ℕ) where
   pub length-output : (d : ℕ) → length (oneShot (row mode) key message d) ≡ d
   length-output d = rw output-values (length-values _ 0 d)
 
-  -- d + k bytes begin with the d bytes
-  pub take-output : (d k : ℕ) → take d (oneShot (row mode) key message (d + k)) ≡ oneShot (row mode) key message d
-  take-output d k = rw (output-values (d + k), output-values d) (take-values _ 0 d (d + k) (omega arith))
+  -- more bytes begin with the fewer
+  pub take-output : (d n : ℕ) → d ≤ n → take d (oneShot (row mode) key message n) ≡ oneShot (row mode) key message d
+  take-output d n h = rw (output-values n, output-values d) (take-values _ 0 d n h)
 
-  -- and k bytes follow
+  -- d bytes, and the k that follow
   pub length-later : (d k : ℕ) → length (drop d (oneShot (row mode) key message (d + k))) ≡ k
   length-later d k = length-drop d (oneShot (row mode) key message (d + k)) ∙ rw (length-output (d + k)) (omega arith)
 
@@ -34,4 +34,4 @@ module _ (mode : Mode) (key message : List ℕ) where
       → oneShot (row mode) key message (d + k) ≡ oneShot (row mode) key message d ++ drop d (oneShot (row mode) key message (d + k))
   output-add d k =
       sym (take-append-drop d (oneShot (row mode) key message (d + k)))
-      ∙ ap (λ (l : List ℕ). l ++ drop d (oneShot (row mode) key message (d + k))) (take-output d k)
+      ∙ ap (λ (l : List ℕ). l ++ drop d (oneShot (row mode) key message (d + k))) (take-output d (d + k) (omega arith))

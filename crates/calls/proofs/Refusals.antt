@@ -16,7 +16,7 @@ use Rattle.mode.specs.declared.Named.the-variants.{Is, NoMode}
 use Rattle.mode.specs.Mode.{row, numberOf}
 use Rattle.mode.proofs.Modes.{named-number}
 use Rattle.calls.specs.Call.{refuse}
-use Rattle.calls.specs.Checks.{Check, checked, mostOpen, Standing, openChecks, ticketChecks, feedChecks, drawChecks, checkChecks}
+use Rattle.calls.specs.Checks.{OneCheck, checked, mostOpen, Standing, openChecks, ticketChecks, feedOwn, feedChecks, drawOwn, drawChecks, checkOwn, checkChecks}
 use Rattle.calls.specs.Machine.{Machine, openCount, admit, openMachine}
 use Rattle.calls.proofs.Checks.{never-issued, is-closed}
 
@@ -40,7 +40,7 @@ openStanding mode feeding fed drawn = record { issued = true; isOpen = true; mod
 
 module _ {A : Type 0} (answer : ℕ → A) (done : A) where
   -- what a list of checks comes to
-  abbrev pub outcome : List Check → A
+  abbrev pub outcome : List OneCheck → A
   outcome cs = checked answer cs done
 
   -- ---- open: 1, 2, 14, 13
@@ -70,22 +70,22 @@ module _ {A : Type 0} (answer : ℕ → A) (done : A) where
   -- ---- a call on a ticket: 11, 12
 
   -- a list of checks begins with these
-  abbrev pub Begins : (Standing → List Check) → Type 0
+  abbrev pub Begins : (Standing → List OneCheck) → Type 0
   Begins cs =
       (s : Standing)
       → (s .issued ≡ false → outcome (cs s) ≡ answer 11)
       × (s .issued ≡ true → s .isOpen ≡ false → outcome (cs s) ≡ answer 12)
 
   pub feed-begins : (bytes : List ℕ) → Begins (λ (s : Standing). feedChecks s bytes)
-  unfolding feedChecks
+  unfolding feedChecks feedOwn
   feed-begins bytes s = (never-issued answer s _ done, is-closed answer s _ done)
 
   pub draw-begins : (buffer : List ℕ) (place count : ℕ) → Begins (λ (s : Standing). drawChecks s buffer place count)
-  unfolding drawChecks
+  unfolding drawChecks drawOwn
   draw-begins buffer place count s = (never-issued answer s _ done, is-closed answer s _ done)
 
   pub check-begins : (tag : List ℕ) → Begins (λ (s : Standing). checkChecks s tag)
-  unfolding checkChecks
+  unfolding checkChecks checkOwn
   check-begins tag s = (never-issued answer s _ done, is-closed answer s _ done)
 
   pub close-begins : Begins ticketChecks
@@ -97,50 +97,50 @@ module _ {A : Type 0} (answer : ℕ → A) (done : A) where
   module _ (mode : Mode) (fed drawn : ℕ) where
     -- feed: 15, 16. However many bytes, where feeding has ended
     pub feed-15 : (bytes : List ℕ) → outcome (feedChecks (openStanding mode false fed drawn) bytes) ≡ answer 15
-    unfolding feedChecks ticketChecks
+    unfolding feedChecks feedOwn ticketChecks
     feed-15 bytes = refl
 
     pub feed-16 : (bytes : List ℕ) → 16777216 < fed + length bytes → outcome (feedChecks (openStanding mode true fed drawn) bytes) ≡ answer 16
-    unfolding feedChecks ticketChecks
+    unfolding feedChecks feedOwn ticketChecks
     feed-16 bytes more = rw (lt-ltb 16777216 (fed + length bytes) more)
 
     pub feed-done : (bytes : List ℕ) → fed + length bytes ≤ 16777216 → outcome (feedChecks (openStanding mode true fed drawn) bytes) ≡ done
-    unfolding feedChecks ticketChecks
+    unfolding feedChecks feedOwn ticketChecks
     feed-done bytes room = rw (le-ltb 16777216 (fed + length bytes) room)
 
     -- draw: 3, 17, whether feeding lasts or not. 3 for any mode, however many bytes are drawn
     module _ (feeding : Bool) (buffer : List ℕ) (place count : ℕ) where
       pub draw-3 : length buffer < place + count → outcome (drawChecks (openStanding mode feeding fed drawn) buffer place count) ≡ answer 3
-      unfolding drawChecks ticketChecks
+      unfolding drawChecks drawOwn ticketChecks
       draw-3 past = rw (lt-ltb (length buffer) (place + count) past)
 
       pub draw-17 : place + count ≤ length buffer → most mode < drawn + count → outcome (drawChecks (openStanding mode feeding fed drawn) buffer place count) ≡ answer 17
-      unfolding drawChecks ticketChecks
+      unfolding drawChecks drawOwn ticketChecks
       draw-17 fits more = rw (le-ltb (length buffer) (place + count) fits, most-drawn mode, lt-ltb (most mode) (drawn + count) more)
 
       pub draw-done : place + count ≤ length buffer → drawn + count ≤ most mode → outcome (drawChecks (openStanding mode feeding fed drawn) buffer place count) ≡ done
-      unfolding drawChecks ticketChecks
+      unfolding drawChecks drawOwn ticketChecks
       draw-done fits room = rw (le-ltb (length buffer) (place + count) fits, most-drawn mode, le-ltb (most mode) (drawn + count) room)
 
   -- check: 18, 4, whether feeding lasts or not. 18 for any tag
   module _ (feeding : Bool) (fed drawn : ℕ) (tag : List ℕ) where
     pub check-18 : (mode : Mode) → mode ≢ Mac → outcome (checkChecks (openStanding mode feeding fed drawn) tag) ≡ answer 18
-    unfolding checkChecks ticketChecks
+    unfolding checkChecks checkOwn ticketChecks
     check-18 Prf other = refl
     check-18 Mac other = absurd (other refl)
     check-18 Hash other = refl
     check-18 Xof other = refl
 
     pub check-4-short : length tag < 8 → outcome (checkChecks (openStanding Mac feeding fed drawn) tag) ≡ answer 4
-    unfolding checkChecks ticketChecks
+    unfolding checkChecks checkOwn ticketChecks
     check-4-short short = rw (lt-ltb (length tag) 8 short)
 
     pub check-4-long : 16 < length tag → outcome (checkChecks (openStanding Mac feeding fed drawn) tag) ≡ answer 4
-    unfolding checkChecks ticketChecks
+    unfolding checkChecks checkOwn ticketChecks
     check-4-long long = rw (lt-ltb 16 (length tag) long, or-true)
 
     pub check-done : 8 ≤ length tag → length tag ≤ 16 → outcome (checkChecks (openStanding Mac feeding fed drawn) tag) ≡ done
-    unfolding checkChecks ticketChecks
+    unfolding checkChecks checkOwn ticketChecks
     check-done low high = rw (le-ltb (length tag) 8 low, le-ltb 16 (length tag) high)
 
     -- close

@@ -17,7 +17,7 @@ use Rattle.sponge.specs.Sponge.{start, runsFeeding, runsEnded}
 use Rattle.mode.proofs.Modes.{rates}
 use Rattle.sponge.proofs.Drawing.{blocks-drawn}
 use Rattle.calls.specs.Call.{Call, Step, refuse, final}
-use Rattle.calls.specs.Checks.{Check as OneCheck, Standing, mostIssued, mostFed, checked, ticketChecks}
+use Rattle.calls.specs.Checks.{OneCheck, Standing, mostIssued, mostFed, checked, ticketChecks}
 use Rattle.calls.specs.Machine.{Entry, Machine, emptyMachine, formula, runsOf, newEntry, afterFeed, afterDraw, afterClose, placeOf, entryOf, standingOf}
 use Rattle.calls.specs.Machine.{put, sumMachine, machine}
 use Rattle.calls.proofs.Keyed.{most-nil, most-set, most-snoc, all, all-append, all-yes, all-no, all-here, all-other, named-is}

@@ -9,16 +9,15 @@ use native.Mathlib.Nat.{add-zero}
 use lib.ListN.{length, take}
 use Rattle.mode.specs.declared.Mode.the-variants.{Mac}
 use Rattle.mode.specs.Mode.{row}
-use Rattle.sponge.specs.Sponge.{start, absorbMessage, output, oneShot, runsEnded}
+use Rattle.sponge.specs.Sponge.{start, oneShot, runsEnded}
 use Rattle.sponge.specs.Record.{same}
-use Rattle.mode.proofs.Modes.{rates}
-use Rattle.sponge.proofs.Drawing.{take-values, squeezeBytes-values}
 use Rattle.sponge.proofs.Tags.{equal-same, other-same}
 use Rattle.calls.specs.Answer.{judged}
 use Rattle.calls.specs.Call.{Step, step, refuse}
 use Rattle.calls.specs.Machine.{Entry, Machine, formula, runsOf, outputOf, afterDraw, put, checkMachine}
 use Rattle.calls.proofs.Keyed.{all}
 use Rattle.calls.proofs.Entries.{number, entry-is, standing-is}
+use Rattle.calls.proofs.Output.{take-output}
 use Rattle.calls.proofs.Refusals.{check-done}
 
 -- the 16 bytes of the MAC of a message
@@ -27,10 +26,7 @@ macOf key message = oneShot (row Mac) key message 16
 
 -- they begin with the d bytes that are asked for
 pub mac-begins : (key message : List ℕ) (d : ℕ) → d ≤ 16 → oneShot (row Mac) key message d ≡ take d (macOf key message)
-unfolding oneShot output
-mac-begins key message d h =
-    let s : List ℕ = absorbMessage (row Mac) message (start (row Mac) key .state) in
-    rw (squeezeBytes-values (row Mac) (rates Mac .draws) d s, squeezeBytes-values (row Mac) (rates Mac .draws) 16 s) (sym (take-values _ 0 d 16 h))
+mac-begins key message d h = sym (take-output Mac key message d 16 h)
 
 -- the entry of an open ticket of mode 2
 abbrev pub macEntry : ℕ → List ℕ → List ℕ → Bool → ℕ → Entry

@@ -35,16 +35,16 @@ longestTag = 16
 -- ---- lists of checks
 
 -- one check: whether it fails, and the number that is answered then
-pub record Check : Type 0 where
+pub record OneCheck : Type 0 where
   pub fails : Bool
   pub number : ℕ
 
 -- check n fails where b holds
-abbrev pub refusal : ℕ → Bool → Check
+abbrev pub refusal : ℕ → Bool → OneCheck
 refusal n b = record { fails = b; number = n }
 
 -- the first check that fails is answered with its number; where none does, the call is done
-abbrev pub checked : {A : Type 0} → (ℕ → A) → List Check → A → A
+abbrev pub checked : {A : Type 0} → (ℕ → A) → List OneCheck → A → A
 checked refuse [] done = done
 checked refuse (c ∷ cs) done = cond (c .fails) (refuse (c .number)) (checked refuse cs done)
 
@@ -61,7 +61,7 @@ wrongKey (Is mode) key = not (eqb (length key) (row mode .keyLength))
 wrongKey NoMode key = true
 
 -- how many tickets were issued; whether as many are open as there are places
-unfoldable pub openChecks : Named → List ℕ → ℕ → Bool → List Check
+unfoldable pub openChecks : Named → List ℕ → ℕ → Bool → List OneCheck
 openChecks mode key issued full =
     refusal 1 (namesNone mode) ∷ refusal 2 (wrongKey mode key) ∷ refusal 14 (leb mostIssued issued) ∷ refusal 13 full ∷ []
 
@@ -77,25 +77,29 @@ pub record Standing : Type 0 where
   pub drawn : ℕ
 
 -- close, and what every other call on a ticket begins with: 11, 12
-unfoldable pub ticketChecks : Standing → List Check
+unfoldable pub ticketChecks : Standing → List OneCheck
 ticketChecks s = refusal 11 (not (s .issued)) ∷ refusal 12 (not (s .isOpen)) ∷ []
 
--- feed: 11, 12, 15, 16
-unfoldable pub feedChecks : Standing → List ℕ → List Check
-feedChecks s bytes = ticketChecks s ++ refusal 15 (not (s .feeding)) ∷ refusal 16 (ltb mostFed (s .fed + length bytes)) ∷ []
+-- feed: 11, 12, and its own, 15, 16
+unfoldable pub feedOwn : Standing → List ℕ → List OneCheck
+feedOwn s bytes = refusal 15 (not (s .feeding)) ∷ refusal 16 (ltb mostFed (s .fed + length bytes)) ∷ []
 
--- draw: 11, 12, 3, 17
-unfoldable pub drawChecks : Standing → List ℕ → ℕ → ℕ → List Check
-drawChecks s buffer place count =
-    ticketChecks s ++ refusal 3 (ltb (length buffer) (place + count)) ∷ refusal 17 (ltb (row (s .mode) .mostDrawn) (s .drawn + count)) ∷ []
+unfoldable pub feedChecks : Standing → List ℕ → List OneCheck
+feedChecks s bytes = ticketChecks s ++ feedOwn s bytes
 
--- check: 11, 12, 18, 4
-unfoldable pub checkChecks : Standing → List ℕ → List Check
-checkChecks s tag =
-    ticketChecks s
-    ++ refusal 18 (not (eqb (numberOf (s .mode)) 2))
-    ∷ refusal 4 (ltb (length tag) shortestTag || ltb longestTag (length tag))
-    ∷ []
+-- draw: 11, 12, and its own, 3, 17
+unfoldable pub drawOwn : Standing → List ℕ → ℕ → ℕ → List OneCheck
+drawOwn s buffer place count = refusal 3 (ltb (length buffer) (place + count)) ∷ refusal 17 (ltb (row (s .mode) .mostDrawn) (s .drawn + count)) ∷ []
+
+unfoldable pub drawChecks : Standing → List ℕ → ℕ → ℕ → List OneCheck
+drawChecks s buffer place count = ticketChecks s ++ drawOwn s buffer place count
+
+-- check: 11, 12, and its own, 18, 4
+unfoldable pub checkOwn : Standing → List ℕ → List OneCheck
+checkOwn s tag = refusal 18 (not (eqb (numberOf (s .mode)) 2)) ∷ refusal 4 (ltb (length tag) shortestTag || ltb longestTag (length tag)) ∷ []
+
+unfoldable pub checkChecks : Standing → List ℕ → List OneCheck
+checkChecks s tag = ticketChecks s ++ checkOwn s tag
 
 -- ---- a lent buffer
 

@@ -9,7 +9,7 @@ use Rattle.mode.specs.declared.Mode.{Mode}
 use Rattle.mode.specs.Mode.{row, numberOf}
 use Rattle.sponge.specs.Sponge.{oneShot}
 use Rattle.calls.specs.Answer.{summed}
-use Rattle.calls.specs.Call.{Call, Sum, Step, Event, events, final}
+use Rattle.calls.specs.Call.{Call, Sum, Step, events, final}
 use Rattle.calls.specs.Keyed.{total}
 use Rattle.calls.specs.Machine.{formula, emptyMachine, machine}
 use Rattle.calls.specs.Lists.{issuedBy, issueOf, bytesFed, bytesDrawn, feedingLasts, runCount, tickets, afterIssue, naming, callsOf}

@@ -1,6 +1,6 @@
 -- The calls of the day, one after the other.
 -- Assumes nothing.
-use mathlib.Core.Path.{_≡_, refl, sym, ap, _∙_}
+use mathlib.Core.Path.{_≡_}
 use mathlib.Core.List.{List, []}
 use Prim.Native.Nat.{ℕ, suc, _+_, _-_, _*_, _/_, _%_, _≤_, _<_}
 use native.Mathlib.Nat.{add-sub-cancel-left}
@@ -8,7 +8,7 @@ use native.Mathlib.Numerals.{add-one}
 use native.Mathlib.Omega.{arith}
 use borrow.Author.Tests.{lt-ltb, le-ltb}
 use lib.ListN.{take, drop, replicate}
-use Rattle.calls.specs.Call.{Call, Open, Feed, Draw, Close, final}
+use Rattle.calls.specs.Call.{Open, Feed, Draw, Close, final}
 use Rattle.hub.specs.declared.Hub.{Hub}
 use Rattle.hub.specs.Hub.{onHub, feedHub}
 use Rattle.day.specs.Day.{callAt, callsFrom, often}

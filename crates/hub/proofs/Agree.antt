@@ -1,24 +1,24 @@
 -- The hub and the plain machine agree: each call gets the same from both, and so does each call of a list.
 -- Assumes nothing.
-use mathlib.Core.Bool.{Bool, true, false, not, _||_, true≢false}
+use mathlib.Core.Bool.{Bool, true, false, _||_, true≢false}
 use mathlib.Core.Path.{_≡_, refl, sym, ap, ap₂, _∙_}
 use mathlib.Core.List.{List, [], _∷_, _++_}
 use Prim.Native.Nat.{ℕ, _+_, _≤_}
 use native.Mathlib.Omega.{arith}
 use borrow.Author.Tests.{eqb-true, ltb-false, not-false}
-use lib.Dec.{eqb, ltb}
+use lib.Dec.{ltb}
 use lib.ListN.{length, drop}
 use Rattle.mode.specs.declared.Mode.{Mode}
 use Rattle.mode.specs.declared.Named.{Named}
 use Rattle.mode.specs.declared.Named.the-variants.{Is, NoMode}
 use Rattle.sponge.specs.declared.record.Record.{Record}
-use Rattle.mode.specs.Mode.{row, numberOf, named}
+use Rattle.mode.specs.Mode.{numberOf, named}
 use Rattle.sponge.specs.Record.{sum64, vacant, absorbed, finished, nextBytes, squeezed, same, tagMatches}
 use Rattle.sponge.proofs.Core.{sum64-fits}
 use Rattle.calls.specs.declared.Answer.{Answer}
 use Rattle.calls.specs.Answer.{opened, counted, judged, summed}
 use Rattle.calls.specs.Call.{Call, Open, Feed, Draw, Check, Close, Sum, Response, Step, step, refuse, Event, events, final}
-use Rattle.calls.specs.Checks.{Check as OneCheck, Standing, mostFed, shortestTag, longestTag, checked, refusal, openChecks, ticketChecks, feedChecks, drawChecks, checkChecks, written}
+use Rattle.calls.specs.Checks.{OneCheck, Standing, shortestTag, longestTag, checked, openChecks, ticketChecks, feedOwn, feedChecks, drawOwn, drawChecks, checkOwn, checkChecks, written}
 use Rattle.calls.specs.Keyed.{total}
 use Rattle.calls.specs.Machine.{Entry, Machine, emptyMachine, runsOf, outputOf, newEntry, afterFeed, afterDraw, afterClose, entryOf, openMachine, feedMachine, drawMachine, checkMachine, closeMachine, sumMachine, machine}
 use Rattle.calls.specs.Machine as plain
@@ -133,9 +133,9 @@ module _ (h : Hub) (m : Machine) (s : Sound m) (rep : Represents h m) where
       one (Is mode) [] free pass = absurd (true≢false (sym (is-absent 0 h free) ∙ pass .1 .1 .1 .0))
 
   feed-same : (t : ℕ) (bytes : List ℕ) → Same (feedHub t bytes h) (feedMachine t bytes m)
-  unfolding feedHub feedMachine feedChecks afterFeed
+  unfolding feedHub feedMachine feedChecks feedOwn afterFeed
   feed-same t bytes =
-      on-ticket t [] (λ x. refusal 15 (not (x .feeding)) ∷ refusal 16 (ltb mostFed (x .fed + length bytes)) ∷ [])
+      on-ticket t [] (λ x. feedOwn x bytes)
       (λ r. step (hub.put t (absorbed bytes r) h) (counted (absorbed bytes r .runs)) [])
       (λ e. step (plain.put t (afterFeed bytes e) m) (counted (runsOf (afterFeed bytes e))) [])
       (λ e q o g pass.
@@ -143,9 +143,9 @@ module _ (h : Hub) (m : Machine) (s : Sound m) (rep : Represents h m) where
       (good-fed bytes e g (ltb-false _ _ (pass .1 .0))) counted [])
 
   draw-same : (t : ℕ) (buffer : List ℕ) (place k : ℕ) → Same (drawHub t buffer place k h) (drawMachine t buffer place k m)
-  unfolding drawHub drawMachine drawChecks afterDraw
+  unfolding drawHub drawMachine drawChecks drawOwn afterDraw
   draw-same t buffer place k =
-      on-ticket t buffer (λ x. refusal 3 (ltb (length buffer) (place + k)) ∷ refusal 17 (ltb (row (x .mode) .mostDrawn) (x .drawn + k)) ∷ [])
+      on-ticket t buffer (λ x. drawOwn x buffer place k)
       (λ r. step (hub.put t (squeezed k (finished r)) h) (counted (squeezed k (finished r) .runs)) (written buffer place (nextBytes k (finished r))))
       (λ e. step (plain.put t (afterDraw k e) m) (counted (runsOf (afterDraw k e))) (written buffer place (drop (e .drawn) (outputOf e (e .drawn + k)))))
       (λ e q o g pass.
@@ -154,9 +154,9 @@ module _ (h : Hub) (m : Machine) (s : Sound m) (rep : Represents h m) where
       (good-drawn k e g (ltb-false _ _ (pass .1 .0))) counted (written buffer place (drop (e .drawn) (outputOf e (e .drawn + k))))))
 
   check-same : (t : ℕ) (tag : List ℕ) → Same (checkHub t tag h) (checkMachine t tag m)
-  unfolding checkHub checkMachine checkChecks afterDraw
+  unfolding checkHub checkMachine checkChecks checkOwn afterDraw
   check-same t tag =
-      on-ticket t [] (λ x. refusal 18 (not (eqb (numberOf (x .mode)) 2)) ∷ refusal 4 (ltb (length tag) shortestTag || ltb longestTag (length tag)) ∷ [])
+      on-ticket t [] (λ x. checkOwn x tag)
       (λ r. step (hub.put t (finished r) h) (judged (tagMatches tag (finished r)) (finished r .runs)) [])
       (λ e. step (plain.put t (afterDraw 0 e) m) (judged (same tag (outputOf (afterDraw 0 e) (length tag))) (runsOf (afterDraw 0 e))) [])
       (λ e q o g pass.

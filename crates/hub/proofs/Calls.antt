@@ -2,7 +2,7 @@
 -- Assumes nothing.
 use mathlib.Core.Bool.{Bool, true, false, not, _||_}
 use mathlib.Core.Path.{_≡_, ap, ap₂, _∙_}
-use mathlib.Core.List.{List, [], _∷_, _++_}
+use mathlib.Core.List.{List, [], _++_}
 use Prim.Native.Nat.{ℕ, _+_, _-_, _≤_, _<_}
 use native.Mathlib.Omega.{arith}
 use borrow.Author.Tests.{le-leb, lt-leb}
@@ -17,7 +17,7 @@ use Rattle.mode.specs.Mode.{row, numberOf, named}
 use Rattle.sponge.specs.Record.{sum64, vacant, fresh, absorbed, finished, nextBytes, squeezed, tagMatches}
 use Rattle.calls.specs.declared.Answer.{Answer}
 use Rattle.calls.specs.Answer.{opened, counted, judged}
-use Rattle.calls.specs.Checks.{mostIssued, mostFed, shortestTag, longestTag, refusal, checked, openChecks, ticketChecks, feedChecks, drawChecks, checkChecks, written}
+use Rattle.calls.specs.Checks.{mostIssued, mostFed, shortestTag, longestTag, Standing, checked, openChecks, ticketChecks, feedOwn, feedChecks, drawOwn, drawChecks, checkOwn, checkChecks, written}
 use Rattle.calls.specs.Call.{Step, step, refuse}
 use Rattle.hub.specs.declared.Hub.{Hub}
 use Rattle.hub.specs.declared.Reply.{Reply}
@@ -34,6 +34,10 @@ part-written buffer place k bytes e = rw (e, drop-drop)
 pub part-length : (buffer : List ℕ) (place k : ℕ) → place + k ≤ length buffer → length (take (place + k - place) (drop place buffer)) ≡ k
 part-length buffer place k h = simp (length-take, length-drop) (omega arith)
 
+-- what the checks of a call ask of an open ticket's record
+abbrev pub standingAs : Record → Standing
+standingAs r = record { issued = true; isOpen = true; mode = r .mode; feeding = r .feeding; fed = r .fed; drawn = r .drawn }
+
 -- the record in a place
 abbrev pub recordAt : ℕ → Hub → Record
 recordAt p h = getD (h .records) p noRecord
@@ -48,22 +52,25 @@ module _ (t : ℕ) (h : Hub) where
 
     abbrev pub feedAt : ℕ → Record → Step Hub
     feedAt p r =
-        checked (refuse h []) (refusal 15 (not (r .feeding)) ∷ refusal 16 (ltb mostFed (r .fed + length bytes)) ∷ [])
+        checked (refuse h []) (feedOwn (standingAs r) bytes)
         (step (putAt p (absorbed bytes r) h) (counted (absorbed bytes r .runs)) [])
 
     module _ (p : ℕ) (e : located t h ≡ At p) where
       feed-found : feedHub t bytes h ≡ feedAt p (recordAt p h)
-      unfolding feedHub feedChecks put standingOf
+      unfolding feedHub feedChecks feedOwn put standingOf
       feed-found = located-passed t h p e (refuse h []) _ _ ∙ ap₂ feedAt (located-place t h p e) (located-record t h p e)
 
       pub feed-15 : not (recordAt p h .feeding) ≡ true → feedHub t bytes h ≡ refuse h [] 15
+      unfolding feedOwn
       feed-15 e15 = feed-found ∙ rw e15
 
       pub feed-16 : not (recordAt p h .feeding) ≡ false → ltb mostFed (recordAt p h .fed + length bytes) ≡ true → feedHub t bytes h ≡ refuse h [] 16
+      unfolding feedOwn
       feed-16 e15 e16 = feed-found ∙ rw (e15, e16)
 
       pub feed-done : not (recordAt p h .feeding) ≡ false → ltb mostFed (recordAt p h .fed + length bytes) ≡ false
           → (r : Record) → r ≡ absorbed bytes (recordAt p h) → feedHub t bytes h ≡ step (putAt p r h) (counted (r .runs)) []
+      unfolding feedOwn
       feed-done e15 e16 r er = feed-found ∙ rw (e15, e16, er)
 
   -- ---- draw
@@ -75,25 +82,27 @@ module _ (t : ℕ) (h : Hub) where
 
     abbrev pub drawAt : ℕ → Record → Step Hub
     drawAt p r =
-        checked (refuse h buffer)
-        (refusal 3 (ltb (length buffer) (place + count)) ∷ refusal 17 (ltb (row (r .mode) .mostDrawn) (r .drawn + count)) ∷ [])
+        checked (refuse h buffer) (drawOwn (standingAs r) buffer place count)
         (step (putAt p (squeezed count (finished r)) h) (counted (squeezed count (finished r) .runs)) (written buffer place (nextBytes count (finished r))))
 
     module _ (p : ℕ) (e : located t h ≡ At p) where
       draw-found : drawHub t buffer place count h ≡ drawAt p (recordAt p h)
-      unfolding drawHub drawChecks put standingOf
+      unfolding drawHub drawChecks drawOwn put standingOf
       draw-found = located-passed t h p e (refuse h buffer) _ _ ∙ ap₂ drawAt (located-place t h p e) (located-record t h p e)
 
       pub draw-3 : ltb (length buffer) (place + count) ≡ true → drawHub t buffer place count h ≡ refuse h buffer 3
+      unfolding drawOwn
       draw-3 e3 = draw-found ∙ rw e3
 
       pub draw-17 : ltb (length buffer) (place + count) ≡ false → ltb (row (recordAt p h .mode) .mostDrawn) (recordAt p h .drawn + count) ≡ true
           → drawHub t buffer place count h ≡ refuse h buffer 17
+      unfolding drawOwn
       draw-17 e3 e17 = draw-found ∙ rw (e3, e17)
 
       pub draw-done : ltb (length buffer) (place + count) ≡ false → ltb (row (recordAt p h .mode) .mostDrawn) (recordAt p h .drawn + count) ≡ false
           → (r : Record) (bytes : List ℕ) → r ≡ squeezed count (finished (recordAt p h)) → bytes ≡ nextBytes count (finished (recordAt p h))
           → drawHub t buffer place count h ≡ step (putAt p r h) (counted (r .runs)) (written buffer place bytes)
+      unfolding drawOwn
       draw-done e3 e17 r bytes er eb = draw-found ∙ rw (e3, e17, er, eb)
 
   -- ---- check
@@ -105,25 +114,27 @@ module _ (t : ℕ) (h : Hub) where
 
     abbrev pub checkAt : ℕ → Record → Step Hub
     checkAt p r =
-        checked (refuse h [])
-        (refusal 18 (not (eqb (numberOf (r .mode)) 2)) ∷ refusal 4 (ltb (length tag) shortestTag || ltb longestTag (length tag)) ∷ [])
+        checked (refuse h []) (checkOwn (standingAs r) tag)
         (step (putAt p (finished r) h) (judged (tagMatches tag (finished r)) (finished r .runs)) [])
 
     module _ (p : ℕ) (e : located t h ≡ At p) where
       check-found : checkHub t tag h ≡ checkAt p (recordAt p h)
-      unfolding checkHub checkChecks put standingOf
+      unfolding checkHub checkChecks checkOwn put standingOf
       check-found = located-passed t h p e (refuse h []) _ _ ∙ ap₂ checkAt (located-place t h p e) (located-record t h p e)
 
       pub check-18 : not (eqb (numberOf (recordAt p h .mode)) 2) ≡ true → checkHub t tag h ≡ refuse h [] 18
+      unfolding checkOwn
       check-18 e18 = check-found ∙ rw e18
 
       pub check-4 : not (eqb (numberOf (recordAt p h .mode)) 2) ≡ false → ltb (length tag) shortestTag || ltb longestTag (length tag) ≡ true
           → checkHub t tag h ≡ refuse h [] 4
+      unfolding checkOwn
       check-4 e18 e4 = check-found ∙ rw (e18, e4)
 
       pub check-done : not (eqb (numberOf (recordAt p h .mode)) 2) ≡ false → ltb (length tag) shortestTag || ltb longestTag (length tag) ≡ false
           → (r : Record) (passed : Bool) → r ≡ finished (recordAt p h) → passed ≡ tagMatches tag r
           → checkHub t tag h ≡ step (putAt p r h) (judged passed (r .runs)) []
+      unfolding checkOwn
       check-done e18 e4 r passed er ep = check-found ∙ rw (e18, e4, ep, er)
 
   -- ---- close

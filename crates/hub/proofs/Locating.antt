@@ -1,6 +1,6 @@
 -- Where a ticket's record is: what `located` says of the checks 11 and 12.
 -- Assumes nothing.
-use mathlib.Core.Bool.{Bool, true, false, not}
+use mathlib.Core.Bool.{Bool, true, false}
 use mathlib.Core.Path.{_≡_, refl, sym, ap, _∙_}
 use mathlib.Core.List.{List, _++_, map}
 use mathlib.Core.Logic.{_≢_}
@@ -8,8 +8,7 @@ use Prim.Native.Nat.{ℕ, _<_, _≤_}
 use native.Mathlib.Omega.{arith}
 use borrow.Author.Tests.{ne-eqb, le-leb, lt-leb, leb-false, not-true}
 use lib.ListN.{length, getD, length-map}
-use Rattle.sponge.specs.declared.record.Record.{Record}
-use Rattle.calls.specs.Checks.{Check, Standing, checked, ticketChecks}
+use Rattle.calls.specs.Checks.{OneCheck, Standing, checked, ticketChecks}
 use Rattle.calls.proofs.Checks.{never-issued, is-closed, is-open}
 use Rattle.hub.specs.declared.Hub.{Hub}
 use Rattle.hub.specs.declared.places.Located.the-variants.{At, Refused}
@@ -64,7 +63,7 @@ module _ (t : ℕ) (h : Hub) where
 module _ (s : Standing) (q : ℕ) where
   refused-by : {A : Type 0} (issued isOpen : Bool) → s .issued ≡ issued → s .isOpen ≡ isOpen → (n : ℕ)
       → checked (λ (k : ℕ). Refused k) (ticketChecks s) (At q) ≡ Refused n
-      → (f : ℕ → A) (cs : List Check) (x : A) → checked f (ticketChecks s ++ cs) x ≡ f n
+      → (f : ℕ → A) (cs : List OneCheck) (x : A) → checked f (ticketChecks s ++ cs) x ≡ f n
   unfolding ticketChecks
   refused-by false isOpen e o n h f cs x =
       let k : 11 ≡ n = let g = rw e at h in cc in
@@ -83,7 +82,7 @@ module _ (s : Standing) (q : ℕ) where
 
 module _ (t : ℕ) (h : Hub) where
   pub located-refused : (n : ℕ) → located t h ≡ Refused n
-      → {A : Type 0} (f : ℕ → A) (cs : List Check) (x : A) → checked f (ticketChecks (standingOf t h) ++ cs) x ≡ f n
+      → {A : Type 0} (f : ℕ → A) (cs : List OneCheck) (x : A) → checked f (ticketChecks (standingOf t h) ++ cs) x ≡ f n
   unfolding located
   located-refused n e f cs x = refused-by (standingOf t h) (placeOf t h) (standingOf t h .issued) (standingOf t h .isOpen) refl refl n e f cs x
 
@@ -92,7 +91,7 @@ module _ (t : ℕ) (h : Hub) where
     unfolding located
     found = found-by (standingOf t h) (placeOf t h) (standingOf t h .issued) (standingOf t h .isOpen) refl refl p e
 
-    pub located-passed : {A : Type 0} (f : ℕ → A) (cs : List Check) (x : A) → checked f (ticketChecks (standingOf t h) ++ cs) x ≡ checked f cs x
+    pub located-passed : {A : Type 0} (f : ℕ → A) (cs : List OneCheck) (x : A) → checked f (ticketChecks (standingOf t h) ++ cs) x ≡ checked f cs x
     located-passed f cs x = is-open f (standingOf t h) cs x (found .0) (found .1)
 
     pub located-place : placeOf t h ≡ p

@@ -6,20 +6,18 @@ use mathlib.Core.List.{List, []}
 use Prim.Native.Nat.{ℕ, _+_, _^_, _≤_, _<_}
 use native.Mathlib.Omega.{arith}
 use native.Mathlib.Nat.{zero-add, add-zero}
-use lib.ListN.{length, take, drop}
+use lib.ListN.{length, drop}
 use Rattle.mode.specs.declared.Mode.{Mode}
 use Rattle.mode.specs.declared.Mode.the-variants.{Prf, Mac, Hash, Xof}
 use Rattle.sponge.specs.declared.record.Record.{Record}
 use Rattle.mode.specs.Mode.{row, numberOf}
-use Rattle.sponge.specs.Sponge.{absorbMessage, squeezeBytes, oneShot, output, start}
 use Rattle.sponge.specs.Record.{sum64, withCore, withDrawn, afterRun, afterDrawing, fresh, absorbed, finished, nextBytes, squeezed, same, tagMatches}
 use Rattle.sponge.proofs.Core.{sum64-fits, sum64-zero, withCoreOf}
-use Rattle.mode.proofs.Modes.{rates}
-use Rattle.sponge.proofs.Drawing.{valuesFrom, take-values, outputByte, squeezeBytes-values}
 use Rattle.sponge.proofs.Calls.{absorbed-is, absorbed-none, absorbed-append, finished-is, squeezed-is, squeezed-add, finished-again}
 use Rattle.sponge.proofs.Streaming.{calls-feeding-runs, calls-bytes, calls-verdict, calls-ended-runs}
 use Rattle.calls.specs.Checks.{longestTag}
 use Rattle.calls.specs.Machine.{Entry, formula, runsOf, outputOf, newEntry, afterFeed, afterDraw}
+use Rattle.calls.proofs.Output.{take-output}
 use Rattle.calls.proofs.Entries.{Good, mostRuns}
 use Rattle.calls.proofs.Sound.{draws-few, bounded}
 
@@ -148,17 +146,6 @@ module _ (e : Entry) (g : Good e) where
 
 -- ---- a tag
 
--- fewer bytes of output are the first of more
-first-output : (mode : Mode) (key m : List ℕ) (k n : ℕ) → k ≤ n → take k (oneShot (row mode) key m n) ≡ oneShot (row mode) key m k
-unfolding oneShot output
-first-output mode key m k n h = rw (values k, values n) (take-values (outputByte (row mode) s) 0 k n h)
-  where
-    s : List ℕ
-    s = absorbMessage (row mode) m (start (row mode) key .state)
-
-    values : (d : ℕ) → squeezeBytes (row mode) d s ≡ valuesFrom (outputByte (row mode) s) 0 d
-    values d = squeezeBytes-values (row mode) (rates mode .draws) d s
-
 -- in the mode of tags no byte is drawn beyond the first block
 tag-mode : (mode : Mode) → numberOf mode ≡ 2 → (row mode .drawRate ≡ 16) × (row mode .mostDrawn ≡ 16)
 unfolding row
@@ -175,4 +162,4 @@ verdict tag e g h l =
     let mac = tag-mode (e .mode) h in
     ap (tagMatches tag) (ended-model e g)
     ∙ calls-verdict (e .number) (e .mode) (e .key) (e .fed) tag (e .drawn) (omega (arith, g .within, mac .0, mac .1))
-    ∙ ap (same tag) (first-output (e .mode) (e .key) (e .fed) (length tag) (row (e .mode) .drawRate) (omega (arith, mac .0)))
+    ∙ ap (same tag) (take-output (e .mode) (e .key) (e .fed) (length tag) (row (e .mode) .drawRate) (omega (arith, mac .0)))

@@ -1,9 +1,9 @@
 -- The hub, and what each call makes of it. The calls promise these definitions, for every hub; the law over lists of calls is about them too.
 -- Assumes nothing.
-use mathlib.Core.Bool.{Bool, true, false, not, _&&_}
+use mathlib.Core.Bool.{Bool, false, not, _&&_}
 use mathlib.Core.List.{List, []}
 use Prim.Native.Nat.{ℕ, _+_}
-use lib.Dec.{eqb, leb, ltb}
+use lib.Dec.{eqb, leb}
 use lib.ListN.{length, getD, set, replicate}
 use Rattle.mode.specs.declared.Mode.the-variants.{Prf}
 use Rattle.mode.specs.declared.Named.{Named}

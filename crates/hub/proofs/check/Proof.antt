@@ -1,6 +1,6 @@
 use mathlib.Core.Bool.{false, not}
 use mathlib.Core.Path.{_≡_, sym, ap, ap₂, _∙_}
-use Prim.Native.Nat.{ℕ, _<_}
+use Prim.Native.Nat.{_<_}
 use native.Mathlib.Omega.{arith}
 use borrow.Author.Needs.{needs}
 use borrow.Author.Tests.{eq-eqb, ne-eqb}
@@ -10,7 +10,6 @@ use Rattle.mode.specs.Mode.{numberOf}
 use Rattle.calls.specs.declared.Answer.{Answer}
 use Rattle.calls.specs.Answer.{judged}
 use Rattle.hub.specs.declared.Hub.{Hub}
-use Rattle.hub.specs.declared.Reply.{Reply}
 use Rattle.hub.specs.declared.places.Located.the-variants.{At}
 use Rattle.hub.specs.Hub.{located, replyOf}
 use Rattle.hub.proofs.Locating.{unmapped, located-within}
@@ -103,7 +102,8 @@ returns-4 : tie.Need-returns-4
 returns-4 c =
     let right-length = sym (c .before .before .before .before .before .before .wrong-tag-length .ensures) ∙ c .before .before .before .before .before .if2 .left in
     let done = check-done _ _ _ _ (is-at (c .before .before .before .before .before .before .before .before .before .before .before .before)) (is-mac (c .before .before .before .before .before .before .before)) right-length _ _ (c .before .before .before .before .finish .ensures) (c .before .before .before .tag-matches .ensures) in
-    ap₂ (λ (h : Hub) (a : Answer). record { hub = h; answer = a }) (c .before .before .put .ensures) (c .judged .ensures ∙ ap (judged _) (c .before .runs .ensures))
+    let told : c .judged .result ≡ judged (c .before .before .before .tag-matches .result) (c .before .runs .result) = c .judged .ensures in
+    ap₂ (λ (h : Hub) (a : Answer). record { hub = h; answer = a }) (c .before .before .put .ensures) (told ∙ ap (judged _) (c .before .runs .ensures))
     ∙ sym (ap replyOf done)
 
 pub check-spec : {M : Type 1} → statement M

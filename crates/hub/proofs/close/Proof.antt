@@ -1,5 +1,5 @@
 use mathlib.Core.Path.{_≡_, sym, ap, _∙_}
-use Prim.Native.Nat.{ℕ, _<_}
+use Prim.Native.Nat.{_<_}
 use native.Mathlib.Omega.{arith}
 use borrow.Author.Needs.{needs}
 use lib.ListN.{length}
@@ -7,7 +7,6 @@ use Rattle.sponge.specs.declared.record.Record.{Record}
 use Rattle.sponge.specs.Record.{sum64, vacant}
 use Rattle.calls.specs.Answer.{counted}
 use Rattle.hub.specs.declared.Hub.{Hub}
-use Rattle.hub.specs.declared.Reply.{Reply}
 use Rattle.hub.specs.declared.places.Located.the-variants.{At}
 use Rattle.hub.specs.Hub.{putAt, located, replyOf}
 use Rattle.hub.proofs.Locating.{unmapped, located-within}

@@ -1,6 +1,5 @@
 use mathlib.Core.Bool.{false}
 use mathlib.Core.Path.{_≡_, sym, ap, ap₂, _∙_}
-use mathlib.Core.List.{List}
 use Prim.Native.Nat.{ℕ, _+_, _≤_, _<_}
 use native.Mathlib.Nat.{add-sub-cancel-left}
 use native.Mathlib.Omega.{arith}
@@ -17,7 +16,6 @@ use Rattle.calls.specs.declared.Answer.{Answer}
 use Rattle.calls.specs.Answer.{counted}
 use Rattle.calls.specs.Call.{Step}
 use Rattle.hub.specs.declared.Hub.{Hub}
-use Rattle.hub.specs.declared.Reply.{Reply}
 use Rattle.hub.specs.declared.places.Located.the-variants.{At}
 use Rattle.hub.specs.Hub.{located, replyOf}
 use Rattle.hub.proofs.Locating.{unmapped, located-within}

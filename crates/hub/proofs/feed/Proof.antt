@@ -9,7 +9,6 @@ use Rattle.calls.specs.declared.Answer.{Answer}
 use Rattle.calls.specs.Answer.{counted}
 use Rattle.calls.specs.Checks.{mostFed}
 use Rattle.hub.specs.declared.Hub.{Hub}
-use Rattle.hub.specs.declared.Reply.{Reply}
 use Rattle.hub.specs.declared.places.Located.the-variants.{At}
 use Rattle.hub.specs.Hub.{located, replyOf}
 use Rattle.hub.proofs.Locating.{unmapped, located-within}
@@ -35,7 +34,9 @@ lasts c = ap not (sym (c .before .feeding .ensures)) ∙ c .if1 .left
 
 exceeded : (c : tie.After-exceeds)
     → c .exceeds .result ≡ ltb mostFed (recordAt (c .before .before .before .before .before .before .place .given .0 .0) (hub (c .before .before .before .before .before .before .before .before)) .fed + length (c .before .before .before .before .before .before .before .before .before .before .args .bytes .now))
-exceeded c = c .exceeds .ensures ∙ ap (λ (n : ℕ). ltb mostFed (n + length (c .before .before .before .before .before .before .before .before .before .before .args .bytes .now))) (c .before .fed .ensures)
+exceeded c =
+    let e : c .exceeds .result ≡ ltb mostFed (c .before .fed .result + length (c .before .before .before .before .before .before .before .before .before .before .args .bytes .now)) = c .exceeds .ensures in
+    e ∙ ap (λ (n : ℕ). ltb mostFed (n + length (c .before .before .before .before .before .before .before .before .before .before .args .bytes .now))) (c .before .fed .ensures)
 
 locate-requires : tie.Need-locate-requires
 locate-requires c κs = search needs

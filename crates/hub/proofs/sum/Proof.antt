@@ -1,5 +1,5 @@
 -- The invariant: the sum so far and the runs still to come make the whole sum, modulo 2 ^ 64.
-use mathlib.Core.Path.{_≡_, sym, ap, _∙_}
+use mathlib.Core.Path.{_≡_, ap, _∙_}
 use Prim.Native.Nat.{ℕ, _≤_, _<_, _-_, _+_, _%_, _^_}
 use native.Mathlib.Omega.{arith}
 use borrow.Author.Needs.{needs}
@@ -10,7 +10,6 @@ use Rattle.calls.specs.declared.Answer.{Answer}
 use Rattle.calls.specs.Answer.{summed}
 use Rattle.calls.specs.Keyed.{total}
 use Rattle.calls.proofs.Walks.{total-next, total-end}
-use Rattle.hub.specs.declared.Reply.{Reply}
 use Rattle.hub.specs.Hub.{noRecord, sumHub}
 use Rattle.hub.proofs.Locating.{unmapped}
 use Rattle.hub.proofs.sum.Statement.{statement}

@@ -1,9 +1,7 @@
-use mathlib.Core.Path.{_≡_, ap}
-use mathlib.Core.List.{List}
+use mathlib.Core.Path.{ap}
 use lib.ListN.{replicate}
 use borrow.Author.Needs.{needs}
 use Rattle.sponge.specs.declared.record.Record.{Record}
-use Rattle.hub.specs.declared.Hub.{Hub}
 use Rattle.hub.specs.Hub.{emptyHub}
 use Rattle.hub.proofs.Hub.empty.Statement.{statement}
 use Rattle.hub.proofs.Hub.empty.Tie as tie

@@ -1,7 +1,6 @@
-use mathlib.Core.Path.{_≡_, ap}
+use mathlib.Core.Path.{ap}
 use borrow.Author.Needs.{needs}
 use Rattle.calls.specs.declared.Answer.{Answer}
-use Rattle.hub.specs.declared.Reply.{Reply}
 use Rattle.hub.proofs.Hub.refuse.Statement.{statement}
 use Rattle.hub.proofs.Hub.refuse.Tie as tie
 

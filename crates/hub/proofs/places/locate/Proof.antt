@@ -3,7 +3,7 @@ use mathlib.Core.Path.{_≡_, sym, ap, _∙_}
 use native.Mathlib.Omega.{arith}
 use borrow.Author.Needs.{needs}
 use lib.ListN.{length}
-use Rattle.hub.specs.Hub.{standingOf, located}
+use Rattle.hub.specs.Hub.{standingOf}
 use Rattle.hub.proofs.Locating.{unmapped, absent-past, absent-within, issued-no, issued-zero, issued-yes, located-never, located-closed, located-at}
 use Rattle.hub.proofs.places.locate.Statement.{statement}
 use Rattle.hub.proofs.places.locate.Tie as tie
