@@ -1,6 +1,6 @@
 -- The calls of the day, one after the other.
 -- Assumes nothing.
-use mathlib.Core.Path.{_≡_}
+use mathlib.Core.Path.{_≡_, sym, ap, _∙_}
 use mathlib.Core.List.{List, []}
 use Prim.Native.Nat.{ℕ, suc, _+_, _-_, _*_, _/_, _%_, _≤_, _<_}
 use native.Mathlib.Nat.{add-sub-cancel-left}
@@ -8,7 +8,7 @@ use native.Mathlib.Numerals.{add-one}
 use native.Mathlib.Omega.{arith}
 use borrow.Author.Tests.{lt-ltb, le-ltb}
 use lib.ListN.{take, drop, replicate}
-use Rattle.calls.specs.Call.{Open, Feed, Draw, Close, final}
+use Rattle.calls.specs.Call.{Call, Open, Feed, Draw, Close, final}
 use Rattle.hub.specs.declared.Hub.{Hub}
 use Rattle.hub.specs.Hub.{onHub, feedHub}
 use Rattle.day.specs.Day.{callAt, callsFrom, often}
@@ -24,7 +24,7 @@ module _ (i : ℕ) (bytes : List ℕ) where
   unfolding callAt
   opens-unkeyed h k = rw (lt-ltb i 16 h, le-ltb (i % 4) 2 k)
 
-  pub feeds : 16 ≤ i → i < 96 → callAt i bytes ≡ Feed (i % 16 + 1) (take (i % 64 + i * 5 % 37 - i % 64) (drop (i % 64) bytes))
+  pub feeds : 16 ≤ i → i < 96 → callAt i bytes ≡ Feed (i % 16 + 1) (take (i % 12 + i * 5 % 37 - i % 12) (drop (i % 12) bytes))
   unfolding callAt
   feeds h k = rw (le-ltb i 16 h, lt-ltb i 96 k, add-sub-cancel-left)
 
@@ -35,6 +35,10 @@ module _ (i : ℕ) (bytes : List ℕ) where
   pub closes : 192 ≤ i → callAt i bytes ≡ Close (i / 2 % 20)
   unfolding callAt
   closes h = rw (le-ltb i 16 (omega arith), le-ltb i 96 (omega arith), le-ltb i 192 h)
+
+-- the hub after it
+pub after-call : (i : ℕ) (bytes : List ℕ) (h after : Hub) (c : Call) → callAt i bytes ≡ c → after ≡ onHub c h .after → after ≡ onHub (callAt i bytes) h .after
+after-call i bytes h after c is e = e ∙ sym (ap (λ (d : Call). onHub d h .after) is)
 
 -- ---- what is left of them
 

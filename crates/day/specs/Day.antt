@@ -15,7 +15,7 @@ keyAt i bytes = cond (ltb (i % 4) 2) (take 16 (drop i bytes)) []
 unfoldable pub callAt : ℕ → List ℕ → Call
 callAt i bytes =
     cond (ltb i 16) (Open (i % 4 + 1) (keyAt i bytes))
-    (cond (ltb i 96) (Feed (i % 16 + 1) (take (i * 5 % 37) (drop (i % 64) bytes)))
+    (cond (ltb i 96) (Feed (i % 16 + 1) (take (i * 5 % 37) (drop (i % 12) bytes)))
     (cond (ltb i 192) (Draw (i % 16 + 1) (replicate 48 170) (i % 41) (i * 7 % 23)) (Close (i / 2 % 20))))
 
 -- n calls from number i on

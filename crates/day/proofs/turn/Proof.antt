@@ -1,9 +1,7 @@
-use mathlib.Core.Path.{sym, ap, _∙_}
 use native.Mathlib.Omega.{arith}
 use borrow.Author.Needs.{needs}
-use Rattle.calls.specs.Call.{Call}
 use Rattle.hub.specs.Hub.{onHub}
-use Rattle.day.proofs.CallList.{opens-keyed, opens-unkeyed, feeds, draws, closes}
+use Rattle.day.proofs.CallList.{after-call, opens-keyed, opens-unkeyed, feeds, draws, closes}
 use Rattle.day.proofs.turn.Statement.{statement}
 use Rattle.day.proofs.turn.Tie as tie
 
@@ -30,9 +28,7 @@ open-requires c κs = search needs
 
 returns : tie.Need-returns
 unfolding onHub
-returns c =
-    let a = c .before .before .before .before .before .args in
-    c .«open» .ensures ∙ sym (ap (λ (call : Call). onHub call (a .before) .after) (opens-keyed (a .i) _ (omega arith) (omega arith)))
+returns c = let a = c .before .before .before .before .before .args in after-call (a .i) _ (a .before) _ _ (opens-keyed (a .i) _ (omega arith) (omega arith)) (c .«open» .ensures)
 
 add-open-2 : tie.Need-add-open-2
 add-open-2 c = search needs
@@ -48,9 +44,7 @@ open-requires-2 c κs = search needs
 
 returns-2 : tie.Need-returns-2
 unfolding onHub
-returns-2 c =
-    let a = c .before .before .before .before .before .args in
-    c .open2 .ensures ∙ sym (ap (λ (call : Call). onHub call (a .before) .after) (opens-unkeyed (a .i) _ (omega arith) (omega arith)))
+returns-2 c = let a = c .before .before .before .before .before .args in after-call (a .i) _ (a .before) _ _ (opens-unkeyed (a .i) _ (omega arith) (omega arith)) (c .open2 .ensures)
 
 add-ticket : tie.Need-add-ticket
 add-ticket c = search needs
@@ -78,9 +72,7 @@ feed-requires c κs = search needs
 
 returns-3 : tie.Need-returns-3
 unfolding onHub
-returns-3 c =
-    let a = c .before .before .before .before .before .args in
-    c .feed .ensures ∙ sym (ap (λ (call : Call). onHub call (a .before) .after) (feeds (a .i) _ (omega arith) (omega arith)))
+returns-3 c = let a = c .before .before .before .before .before .args in after-call (a .i) _ (a .before) _ _ (feeds (a .i) _ (omega arith) (omega arith)) (c .feed .ensures)
 
 slice-aggregate-draw : tie.Need-slice-aggregate-draw
 slice-aggregate-draw c = search needs
@@ -93,9 +85,7 @@ draw-requires c κs = search needs
 
 returns-4 : tie.Need-returns-4
 unfolding onHub
-returns-4 c =
-    let a = c .before .before .before .before .before .before .before .args in
-    c .before .draw .ensures .0 ∙ sym (ap (λ (call : Call). onHub call (a .before) .after) (draws (a .i) _ (omega arith) (omega arith)))
+returns-4 c = let a = c .before .before .before .before .before .before .before .args in after-call (a .i) _ (a .before) _ _ (draws (a .i) _ (omega arith) (omega arith)) (c .before .draw .ensures .0)
 
 cast-close : tie.Need-cast-close
 cast-close c = search needs
@@ -105,9 +95,7 @@ close-requires c κs = search needs
 
 returns-5 : tie.Need-returns-5
 unfolding onHub
-returns-5 c =
-    let a = c .before .before .before .before .before .args in
-    c .close .ensures ∙ sym (ap (λ (call : Call). onHub call (a .before) .after) (closes (a .i) _ (omega arith)))
+returns-5 c = let a = c .before .before .before .before .before .args in after-call (a .i) _ (a .before) _ _ (closes (a .i) _ (omega arith)) (c .close .ensures)
 
 pub turn-spec : {M : Type 1} → statement M
 turn-spec =
