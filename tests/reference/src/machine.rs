@@ -161,7 +161,8 @@ impl Machine {
                 entry.drawn += count;
                 let mut after = buffer.clone();
                 if count > 0 {
-                    after[place..place + count].copy_from_slice(&entry.output(before + count)[before..]);
+                    after[place..place + count]
+                        .copy_from_slice(&entry.output(before + count)[before..]);
                 }
                 answer.buffer = Some(after);
                 answer.runs = entry.runs();

@@ -20,13 +20,16 @@ impl<'a> Words<'a> {
 
     fn number<T: std::str::FromStr>(&mut self) -> T {
         let word = self.word();
-        word.parse().unwrap_or_else(|_| panic!("no number: {word:?}"))
+        word.parse()
+            .unwrap_or_else(|_| panic!("no number: {word:?}"))
     }
 
     fn bytes(&mut self) -> Vec<u8> {
         let (list, rest) = self.0.strip_prefix('[').unwrap().split_once(']').unwrap();
         self.0 = rest.trim_start_matches(' ');
-        list.split_whitespace().map(|b| b.parse().unwrap()).collect()
+        list.split_whitespace()
+            .map(|b| b.parse().unwrap())
+            .collect()
     }
 
     fn expect(&mut self, word: &str) {
