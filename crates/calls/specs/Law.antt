@@ -9,34 +9,40 @@ use Rattle.mode.specs.declared.Mode.{Mode}
 use Rattle.mode.specs.Mode.{row, numberOf}
 use Rattle.sponge.specs.Sponge.{oneShot}
 use Rattle.calls.specs.Answer.{summed}
-use Rattle.calls.specs.Call.{Call, Sum, Step, events, final}
+use Rattle.calls.specs.Call.{Call, Sum, Step, Event, events, final}
 use Rattle.calls.specs.Keyed.{total}
 use Rattle.calls.specs.Machine.{formula, emptyMachine, machine}
 use Rattle.calls.specs.Lists.{issuedBy, issueOf, bytesFed, bytesDrawn, feedingLasts, runCount, tickets, afterIssue, naming, callsOf}
 
 module _ {S : Type 0} (run : Call → S → Step S) (empty : S) where
+  -- the calls of a list, each with what it got
+  abbrev pub transcript : List Call → List Event
+  transcript calls = events run empty calls
+
   -- The law over one list of calls, refused ones included.
   pub record Law (calls : List Call) : Type 0 where
     -- of a ticket that was issued for a mode and a key, the bytes drawn, d in all, are the first d bytes of the one-shot output for the bytes fed
-    pub bytes : (t : ℕ) (mode : Mode) (key : List ℕ) → issueOf t (events run empty calls) ≡ issuedBy (numberOf mode) key
-        → bytesDrawn t (events run empty calls)
-        ≡ oneShot (row mode) key (bytesFed t (events run empty calls)) (length (bytesDrawn t (events run empty calls)))
+    pub bytes : (t : ℕ) (mode : Mode) (key : List ℕ) → issueOf t (transcript calls) ≡ issuedBy (numberOf mode) key
+        → bytesDrawn t (transcript calls) ≡ oneShot (row mode) key (bytesFed t (transcript calls)) (length (bytesDrawn t (transcript calls)))
     -- its run count, given by the last accepted call on it, is the formula: for whether feeding lasts, n bytes fed and d drawn
-    pub count : (t : ℕ) (mode : Mode) (key : List ℕ) → issueOf t (events run empty calls) ≡ issuedBy (numberOf mode) key
-        → runCount t (events run empty calls)
-        ≡ formula mode key (feedingLasts t (events run empty calls)) (length (bytesFed t (events run empty calls))) (length (bytesDrawn t (events run empty calls)))
+    pub count : (t : ℕ) (mode : Mode) (key : List ℕ) → issueOf t (transcript calls) ≡ issuedBy (numberOf mode) key
+        → runCount t (transcript calls)
+        ≡ formula mode key (feedingLasts t (transcript calls)) (length (bytesFed t (transcript calls))) (length (bytesDrawn t (transcript calls)))
     -- the sum after the list, which a sum call gives next, is the run counts of all tickets issued in it, added up
-    pub sum : run Sum (final run empty calls) .response .answer
-        ≡ summed (total (λ (t : ℕ). runCount t (events run empty calls)) (tickets (events run empty calls)))
+    pub sum : run Sum (final run empty calls) .response .answer ≡ summed (total (λ (t : ℕ). runCount t (transcript calls)) (tickets (transcript calls)))
     -- what each call gets, answer and buffer, is what the plain machine gives it
-    pub plain : events run empty calls ≡ events machine emptyMachine calls
+    pub plain : transcript calls ≡ events machine emptyMachine calls
+
+  -- the calls that name a ticket once it is issued, with what they got
+  abbrev pub exchanges : ℕ → List Call → List Event
+  exchanges t calls = naming t (afterIssue t (transcript calls))
 
   -- Tickets stand apart. In two lists ticket t was issued for the same mode and key, and the calls that name it from then on are the same, in the same order:
   -- then they get the same answers and the same buffers, whatever else the lists hold.
   abbrev pub Apart : Type 0
   Apart =
       (calls others : List Call) (t mode : ℕ) (key : List ℕ)
-      → issueOf t (events run empty calls) ≡ issuedBy mode key
-      → issueOf t (events run empty others) ≡ issuedBy mode key
-      → callsOf (naming t (afterIssue t (events run empty calls))) ≡ callsOf (naming t (afterIssue t (events run empty others)))
-      → naming t (afterIssue t (events run empty calls)) ≡ naming t (afterIssue t (events run empty others))
+      → issueOf t (transcript calls) ≡ issuedBy mode key
+      → issueOf t (transcript others) ≡ issuedBy mode key
+      → callsOf (exchanges t calls) ≡ callsOf (exchanges t others)
+      → exchanges t calls ≡ exchanges t others
