@@ -20,7 +20,7 @@ use Rattle.calls.specs.Checks.{OneCheck, Standing, mostOpen, checked, op
 use Rattle.calls.specs.Call.{Call, Open, Feed, Draw, Check, Close, Sum, Response, Step, step, refuse, Event, events}
 use Rattle.calls.specs.Machine.{Entry, Machine, emptyMachine, runsOf, outputOf, newEntry, afterFeed, afterDraw, afterClose, entryOf, standingOf, put}
 use Rattle.calls.specs.Machine.{openCount, admit, openMachine, feedMachine, drawMachine, checkMachine, closeMachine, sumMachine, machine}
-use Rattle.calls.specs.Lists.{Issue, issuedBy, issueBy, issueOf, isOn, isOpen, afterIssue, names, naming, callsOf}
+use Rattle.calls.specs.Lists.{Issue, issuedBy, issueBy, issueOf, isOn, opens, afterIssue, names, naming, callsOf}
 use Rattle.calls.specs.Law.{Apart}
 use Rattle.calls.proofs.Keyed.{all, named-is}
 use Rattle.calls.proofs.Checks.{checked-both, checked-each, checked-nonzero}
@@ -180,7 +180,7 @@ data Gives (t : ℕ) (e : Event) (es : List Event) : Type 0 where
   silent : issueOf t (e ∷ es) ≡ issueOf t es → afterIssue t (e ∷ es) ≡ afterIssue t es → Gives t e es
 
 -- a call that is not an open
-no-open : (t : ℕ) (e : Event) (es : List Event) → ((i : Issue) → issueBy (e .call) i ≡ i) → isOpen (e .call) ≡ false → Gives t e es
+no-open : (t : ℕ) (e : Event) (es : List Event) → ((i : Issue) → issueBy (e .call) i ≡ i) → opens (e .call) ≡ false → Gives t e es
 unfolding issueOf afterIssue
 no-open t e es same shut = silent (go (isOn t e)) (rw (shut, and-false))
   where

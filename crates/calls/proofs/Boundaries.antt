@@ -1,11 +1,12 @@
 -- The checks at their boundaries, computed by the checker on the plain machine. The hub and the plain machine answer by the same lists of checks; the answers
 -- here are written out from document 01's "Tickets" and "Refused", so that another order, number or limit changes one of them.
 -- Assumes nothing.
-use mathlib.Core.Bool.{Bool}
+use mathlib.Core.Bool.{Bool, true, false}
 use mathlib.Core.Path.{_≡_, refl}
 use mathlib.Core.List.{List, [], _∷_, map}
-use Prim.Native.Nat.{ℕ}
+use Prim.Native.Nat.{ℕ, _+_, _/_, max}
 use lib.ListN.{length, replicate}
+use Rattle.mode.specs.declared.Mode.{Mode}
 use Rattle.mode.specs.declared.Mode.the-variants.{Mac}
 use Rattle.mode.specs.Mode.{row, named}
 use Rattle.sponge.specs.Sponge.{ceiling, start, oneShot, runsFeeding, runsEnded}
@@ -121,3 +122,18 @@ pub writing : (written (1 ∷ 2 ∷ 3 ∷ 4 ∷ 5 ∷ []) 1 (8 ∷ 9 ∷ []) ≡
     × (written (1 ∷ 2 ∷ []) 0 (8 ∷ 9 ∷ []) ≡ 8 ∷ 9 ∷ [])
 unfolding written
 writing = (refl, refl, refl)
+
+-- each answer, field by field: what is not said is 0
+pub answers : (refused 5 ≡ record { refusal = 5; ticket = 0; runs = 0; passed = false; sum = 0 })
+    × (opened 6 7 ≡ record { refusal = 0; ticket = 6; runs = 7; passed = false; sum = 0 })
+    × (counted 8 ≡ record { refusal = 0; ticket = 0; runs = 8; passed = false; sum = 0 })
+    × (judged true 9 ≡ record { refusal = 0; ticket = 0; runs = 9; passed = true; sum = 0 })
+    × (summed 10 ≡ record { refusal = 0; ticket = 0; runs = 0; passed = false; sum = 10 })
+answers = (refl, refl, refl, refl, refl)
+
+-- the formula, whatever the key: 1 + floor(n / R), and floor(n / R) + 1 + max(1, ceiling(d / r)) once feeding has ended
+pub formula-is : (mode : Mode) (key : List ℕ) (n d : ℕ)
+    → (formula mode key true n d ≡ 1 + n / row mode .feedRate)
+    × (formula mode key false n d ≡ n / row mode .feedRate + 1 + max 1 (ceiling d (row mode .drawRate)))
+unfolding formula runsFeeding runsEnded start
+formula-is mode key n d = (refl, refl)

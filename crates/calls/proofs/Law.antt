@@ -13,7 +13,7 @@ use Rattle.mode.proofs.Modes.{named-number}
 use Rattle.calls.specs.Answer.{summed}
 use Rattle.calls.specs.Call.{Call, Event, events, final}
 use Rattle.calls.specs.Keyed.{total}
-use Rattle.calls.specs.Law.{Law}
+use Rattle.calls.specs.Law.{Law, Numbered}
 use Rattle.calls.specs.Lists.{Issue, unissued, issuedBy, runCount, tickets}
 use Rattle.calls.specs.Machine.{Entry, Machine, emptyMachine, formula, runsOf, outputOf, sumMachine, machine}
 use Rattle.calls.proofs.Keyed.{all}
@@ -22,7 +22,7 @@ use Rattle.calls.proofs.Output.{length-output}
 use Rattle.calls.proofs.Sound.{sound-empty, sound-final}
 use Rattle.calls.proofs.Readings.{Reading, unread, readOn}
 use Rattle.calls.proofs.Tickets.{readingOf, reading, reads-list}
-use Rattle.calls.proofs.Sums.{all-tickets, runs-all}
+use Rattle.calls.proofs.Sums.{all-tickets, tickets-numbered, runs-all}
 
 -- ---- one ticket
 
@@ -94,3 +94,7 @@ machine-law calls = record {
   sum = ap summed (list-sum calls);
   plain = refl;
 }
+
+pub machine-numbered : (calls : List Call) → Numbered machine emptyMachine calls
+unfolding emptyMachine
+machine-numbered calls = tickets-numbered calls emptyMachine sound-empty

@@ -10,6 +10,7 @@ use lib.ListN.{length, length-append}
 use lib.Seq.{map-set-same, append-snoc}
 use Rattle.calls.specs.Call.{Call, Step, Response, events, final}
 use Rattle.calls.specs.Keyed.{total}
+use Rattle.calls.specs.Law.{upFrom}
 use Rattle.calls.specs.Lists.{accepted, givenBy, tickets}
 use Rattle.calls.specs.Machine.{Entry, Machine, runsOf, newEntry, afterFeed, afterDraw, afterClose, placeOf, entryOf, put, sumMachine, machine}
 use Rattle.calls.proofs.Keyed.{all, all-append, all-yes}
@@ -53,6 +54,38 @@ all-tickets (c ∷ cs) m s =
     all-tickets cs (machine c m .after) (sound-step c m s)
     ∙ ap (λ (l : List ℕ). l ++ tickets (events machine (machine c m .after) cs)) (given-outcome m (outcome c m s))
     ∙ append-assoc (numbers m) (given c (machine c m .response)) (tickets (events machine (machine c m .after) cs))
+
+-- ---- their numbers
+
+-- a call gives no ticket, or the next number, which goes up by one
+data Given (m : Machine) (c : Call) (r : Step Machine) : Type 0 where
+  none : given c (r .response) ≡ [] → r .after .next ≡ m .next → Given m c r
+  one : given c (r .response) ≡ m .next ∷ [] → r .after .next ≡ m .next + 1 → Given m c r
+
+given-next : (m : Machine) {c : Call} {r : Step Machine} → Outcome m c r → Given m c r
+unfolding given put sumMachine
+given-next m (refuses c buffer n h) = none (rw (ne-eqb n 0 h)) refl
+given-next m (issues n mode key h room) = one refl refl
+given-next m (feeds t bytes e o h room) = none refl refl
+given-next m (draws t buffer place count e o h room) = none refl refl
+given-next m (checks t tag e o) = none refl refl
+given-next m (closes t e o) = none refl refl
+given-next m sums = none refl refl
+
+-- so the tickets of a list count up from the next number
+pub tickets-numbered : (cs : List Call) (m : Machine) → Sound m
+    → tickets (events machine m cs) ≡ upFrom (m .next) (length (tickets (events machine m cs)))
+unfolding events tickets upFrom given
+tickets-numbered [] m s = refl
+tickets-numbered (c ∷ cs) m s = go (given-next m (outcome c m s)) (tickets-numbered cs (machine c m .after) (sound-step c m s))
+  where
+    rest : List ℕ
+    rest = tickets (events machine (machine c m .after) cs)
+
+    go : Given m c (machine c m) → rest ≡ upFrom (machine c m .after .next) (length rest)
+        → given c (machine c m .response) ++ rest ≡ upFrom (m .next) (length (given c (machine c m .response) ++ rest))
+    go (none g n) later = rw g (later ∙ ap (λ (k : ℕ). upFrom k (length rest)) n)
+    go (one g n) later = rw g (ap (λ (l : List ℕ). m .next ∷ l) (later ∙ ap (λ (k : ℕ). upFrom k (length rest)) n))
 
 -- ---- the sum
 

@@ -16,7 +16,7 @@ use Rattle.calls.specs.declared.Answer.{Answer}
 use Rattle.calls.specs.Answer.{refused, opened, counted, judged}
 use Rattle.calls.specs.Call.{Call, Open, Feed, Draw, Check, Close, Sum, Step, step, refuse, Response, Event, events, final}
 use Rattle.calls.specs.Checks.{written}
-use Rattle.calls.specs.Lists.{ticketOf, isOn, issuedBy}
+use Rattle.calls.specs.Lists.{concerns, isOn, issuedBy}
 use Rattle.calls.specs.Machine.{Entry, Machine, runsOf, outputOf, newEntry, afterFeed, afterDraw, afterClose, put, sumMachine, machine}
 use Rattle.calls.proofs.Keyed.{all, named-is}
 use Rattle.calls.proofs.Entries.{number, Good, Sound}
@@ -80,10 +80,10 @@ reads-new m s n mode key h =
     (reading-path (ap (λ (k : ℕ). issuedBy k key) (sym h)) refl (sym (no-output (newEntry (m .next) mode key))) refl refl))
     (λ t n. new-other m s mode key t (λ z. n (sym z)))
 
--- a sum is as if on ticket 0, which there is not
-reads-sum : (m : Machine) → Sound m → Reads m Sum (sumMachine m)
-unfolding reading sumMachine readCall readingOf
-reads-sum m s = reads-one m Sum (sumMachine m) 0 (λ t. refl) (rw (s .zeroth)) (λ t n. refl)
+-- a sum is on no ticket
+reads-sum : (m : Machine) → Reads m Sum (sumMachine m)
+unfolding sumMachine
+reads-sum m = record { reads = λ t es. read-other t (record { call = Sum; response = sumMachine m .response }) es (reading t m) refl }
 
 -- ---- the bytes drawn
 
@@ -107,7 +107,7 @@ drawn-more buffer place count e h =
 
 reads-refused : (m : Machine) (c : Call) (buffer : List ℕ) (n : ℕ) → n ≢ 0 → Reads m c (refuse m buffer n)
 reads-refused m c buffer n h = record {
-  reads = λ t es. read-other t (record { call = c; response = r }) es (reading t m) (ap (λ (b : Bool). b && eqb (ticketOf c r) t) (ne-eqb n 0 h));
+  reads = λ t es. read-other t (record { call = c; response = r }) es (reading t m) (ap (λ (b : Bool). b && concerns t c r) (ne-eqb n 0 h));
 }
   where
     r : Response
@@ -129,7 +129,7 @@ reads-outcome m s (checks t tag e o) =
 reads-outcome m s (closes t e o) =
     reads-change m (Close t) (counted (runsOf (afterClose e))) _ t e (afterClose e) o refl (λ u. refl)
     (reading-path refl (append-nil (e .fed)) (append-nil (outputOf e (e .drawn))) (and-true (e .feeding)) refl)
-reads-outcome m s sums = reads-sum m s
+reads-outcome m s sums = reads-sum m
 
 -- the list from a sound machine takes the machine's reading of each ticket to the one at its end
 pub reads-list : (cs : List Call) (m : Machine) → Sound m → (t : ℕ) → readOn t (events machine m cs) (reading t m) ≡ reading t (final machine m cs)

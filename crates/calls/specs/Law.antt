@@ -2,8 +2,8 @@
 -- begins with.
 -- Assumes nothing.
 use mathlib.Core.Path.{_≡_}
-use mathlib.Core.List.{List}
-use Prim.Native.Nat.{ℕ}
+use mathlib.Core.List.{List, [], _∷_}
+use Prim.Native.Nat.{ℕ, zero, suc, _+_}
 use lib.ListN.{length}
 use Rattle.mode.specs.declared.Mode.{Mode}
 use Rattle.mode.specs.Mode.{row, numberOf}
@@ -13,6 +13,11 @@ use Rattle.calls.specs.Call.{Call, Sum, Step, Event, events, final}
 use Rattle.calls.specs.Keyed.{total}
 use Rattle.calls.specs.Machine.{formula, emptyMachine, machine}
 use Rattle.calls.specs.Lists.{issuedBy, issueOf, bytesFed, bytesDrawn, feedingLasts, runCount, tickets, afterIssue, naming, callsOf}
+
+-- k numbers from n on
+unfoldable pub upFrom : ℕ → ℕ → List ℕ
+upFrom n zero = []
+upFrom n (suc k) = n ∷ upFrom (n + 1) k
 
 module _ {S : Type 0} (run : Call → S → Step S) (empty : S) where
   -- the calls of a list, each with what it got
@@ -33,11 +38,15 @@ module _ {S : Type 0} (run : Call → S → Step S) (empty : S) where
     -- what each call gets, answer and buffer, is what the plain machine gives it
     pub plain : transcript calls ≡ events machine emptyMachine calls
 
+  -- The tickets of a list, in its order, are 1, 2, 3 and so on: none is given twice.
+  abbrev pub Numbered : List Call → Type 0
+  Numbered calls = tickets (transcript calls) ≡ upFrom 1 (length (tickets (transcript calls)))
+
   -- the calls that name a ticket once it is issued, with what they got
   abbrev pub exchanges : ℕ → List Call → List Event
   exchanges t calls = naming t (afterIssue t (transcript calls))
 
-  -- Tickets stand apart. In two lists ticket t was issued for the same mode and key, and the calls that name it from then on are the same, in the same order:
+  -- Tickets stand apart. In two lists ticket t, by that number in both, was issued for the same mode and key, and the calls that name it from then on are the same, in the same order:
   -- then they get the same answers and the same buffers, whatever else the lists hold.
   abbrev pub Apart : Type 0
   Apart =

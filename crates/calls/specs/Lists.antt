@@ -12,18 +12,18 @@ use Rattle.calls.specs.Call.{Call, Open, Feed, Draw, Check, Close, Sum, 
 abbrev pub accepted : Event → Bool
 accepted e = eqb (e .response .answer .refusal) 0
 
--- the ticket that a call is on, for an open the one that it gave; 0 for a sum
-abbrev pub ticketOf : Call → Response → ℕ
-ticketOf (Open mode key) r = r .answer .ticket
-ticketOf (Feed t bytes) r = t
-ticketOf (Draw t buffer place count) r = t
-ticketOf (Check t tag) r = t
-ticketOf (Close t) r = t
-ticketOf Sum r = 0
+-- whether a call is on ticket t: an open is on the ticket that it gave, a sum on none
+abbrev pub concerns : ℕ → Call → Response → Bool
+concerns t (Open mode key) r = eqb (r .answer .ticket) t
+concerns t (Feed u bytes) r = eqb u t
+concerns t (Draw u buffer place count) r = eqb u t
+concerns t (Check u tag) r = eqb u t
+concerns t (Close u) r = eqb u t
+concerns t Sum r = false
 
 -- an accepted call on ticket t, its open included
 abbrev pub isOn : ℕ → Event → Bool
-isOn t e = accepted e && eqb (ticketOf (e .call) (e .response)) t
+isOn t e = accepted e && concerns t (e .call) (e .response)
 
 -- the bytes that it feeds, if it is a feed
 abbrev pub fedBy : Call → List ℕ
@@ -111,18 +111,18 @@ tickets (e ∷ es) = cond (accepted e) (givenBy (e .call) (e .response)) [] ++ t
 
 -- ---- the calls on a ticket, once it is issued
 
-abbrev pub isOpen : Call → Bool
-isOpen (Open mode key) = true
-isOpen (Feed t bytes) = false
-isOpen (Draw t buffer place count) = false
-isOpen (Check t tag) = false
-isOpen (Close t) = false
-isOpen Sum = false
+abbrev pub opens : Call → Bool
+opens (Open mode key) = true
+opens (Feed t bytes) = false
+opens (Draw t buffer place count) = false
+opens (Check t tag) = false
+opens (Close t) = false
+opens Sum = false
 
 -- what comes after the open that gave it
 unfoldable pub afterIssue : ℕ → List Event → List Event
 afterIssue t [] = []
-afterIssue t (e ∷ es) = cond (isOn t e && isOpen (e .call)) es (afterIssue t es)
+afterIssue t (e ∷ es) = cond (isOn t e && opens (e .call)) es (afterIssue t es)
 
 -- a call that names ticket t, accepted or refused
 abbrev pub names : ℕ → Call → Bool

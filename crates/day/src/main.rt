@@ -264,8 +264,8 @@ const TAG: [u8; 16] = [
     239,
 ];
 
-// Nobody is there: every ticket is refused, and so are opens that name no mode or bring a wrong key.
-fn before_anybody() {
+// No ticket is issued yet: every ticket is refused, and so are opens that name no mode or bring a wrong key.
+fn before_any_ticket() {
     let bytes = SAMPLE;
     let mut hub = begin();
     hub = sum(hub);
@@ -371,7 +371,7 @@ fn as_much_as_may_be_fed() {
 }
 
 fn main() {
-    before_anybody();
+    before_any_ticket();
     sixteen_lines();
     ends_of_feeding();
     tags();

@@ -2,9 +2,9 @@
 -- Assumes nothing.
 use mathlib.Core.Path.{ap, _∙_}
 use Rattle.calls.specs.Call.{Response}
-use Rattle.calls.proofs.Law.{machine-law}
+use Rattle.calls.proofs.Law.{machine-law, machine-numbered}
 use Rattle.calls.proofs.Apart.{machine-apart}
-use Rattle.hub.specs.Law.{HubLaw, HubApart}
+use Rattle.hub.specs.Law.{HubLaw, HubNumbered, HubApart}
 use Rattle.hub.proofs.Agree.{agree, agree-sum}
 
 pub hub-law : HubLaw
@@ -14,6 +14,9 @@ hub-law calls = record {
   sum = rw (agree calls) (ap (λ (r : Response). r .answer) (agree-sum calls) ∙ machine-law calls .sum);
   plain = agree calls;
 }
+
+pub hub-numbered : HubNumbered
+hub-numbered calls = rw (agree calls) (machine-numbered calls)
 
 pub hub-apart : HubApart
 hub-apart calls others t mode key = rw (agree calls, agree others) (machine-apart calls others t mode key)

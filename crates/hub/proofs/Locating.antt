@@ -9,10 +9,11 @@ use native.Mathlib.Omega.{arith}
 use borrow.Author.Tests.{ne-eqb, le-leb, lt-leb, leb-false, not-true}
 use lib.ListN.{length, getD, length-map}
 use Rattle.calls.specs.Checks.{OneCheck, Standing, checked, ticketChecks}
-use Rattle.calls.proofs.Checks.{never-issued, is-closed, is-open}
+use Rattle.calls.proofs.Checks.{checked-both, never-issued, is-closed, is-open}
 use Rattle.hub.specs.declared.Hub.{Hub}
+use Rattle.hub.specs.declared.places.Located.{Located}
 use Rattle.hub.specs.declared.places.Located.the-variants.{At, Refused}
-use Rattle.hub.specs.Hub.{placeOf, absent, noRecord, recordOf, standingOf, located}
+use Rattle.hub.specs.Hub.{placeOf, absent, noRecord, recordOf, standingOf, located, refusalOf, ticketRefusal}
 
 -- what owning an array of structs tells is of the list of their values; the list itself is as long
 pub unmapped : (X Y : Type 0) (f : X → Y) (l : List X) (n : ℕ) → length (map f l) ≡ n → length l ≡ n
@@ -56,6 +57,16 @@ module _ (t : ℕ) (h : Hub) where
   pub located-at : (p : ℕ) → standingOf t h .issued ≡ true → absent t h ≡ false → p ≡ placeOf t h → located t h ≡ At p
   unfolding located ticketChecks standingOf
   located-at p e o q = rw (e, o, q)
+
+-- it stands for the number of the check that fails
+pub located-number : (t : ℕ) (h : Hub) (r : Located) → r ≡ located t h → (refusalOf r ≡ ticketRefusal t h) × (r ≡ located t h)
+unfolding located ticketRefusal
+located-number t h r e = (
+  ap refusalOf e
+      ∙ checked-both (λ (x : Located) (n : ℕ). refusalOf x ≡ n) (ticketChecks (standingOf t h)) (λ (k : ℕ). Refused k) (λ (k : ℕ). k) (At (placeOf t h)) 0
+      (λ k. refl) (λ pass. refl),
+  e,
+)
 
 -- ---- what `located` says
 

@@ -42,14 +42,15 @@ noRecord = record { words = []; runs = 0; ticket = 0; mode = Prf; fed = 0; drawn
 unfoldable pub recordOf : ℕ → Hub → Record
 recordOf t h = getD (h .records) (placeOf t h) noRecord
 
--- the hub with another record in place p; in place of the first that has ticket t
+-- the hub with another record in place p
 abbrev pub putAt : ℕ → Record → Hub → Hub
 putAt p r h = record { records = set (h .records) p r; issued = h .issued; closed = h .closed }
 
+-- and in place of the first that has ticket t
 unfoldable pub put : ℕ → Record → Hub → Hub
 put t r h = putAt (placeOf t h) r h
 
--- tickets 1, 2, .. were issued
+-- what the checks ask about a ticket: it was issued if its number is 1 to `issued`, and it is open if a place has it
 unfoldable pub standingOf : ℕ → Hub → Standing
 standingOf t h =
     let r : Record = recordOf t h in
@@ -63,6 +64,10 @@ located t h = checked (λ (n : ℕ). Refused n) (ticketChecks (standingOf t h)) 
 abbrev pub refusalOf : Located → ℕ
 refusalOf (At place) = 0
 refusalOf (Refused number) = number
+
+-- the number of the check that fails, 0 if none does
+unfoldable pub ticketRefusal : ℕ → Hub → ℕ
+ticketRefusal t h = checked (λ (n : ℕ). n) (ticketChecks (standingOf t h)) 0
 
 -- ---- the calls
 

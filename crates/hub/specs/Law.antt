@@ -3,12 +3,17 @@
 -- Assumes nothing.
 use mathlib.Core.List.{List}
 use Rattle.calls.specs.Call.{Call}
-use Rattle.calls.specs.Law.{Law, Apart}
+use Rattle.calls.specs.Law.{Law, Numbered, Apart}
 use Rattle.hub.specs.Hub.{emptyHub, onHub}
 
 -- so it is for every list of calls, from the empty hub
 abbrev pub HubLaw : Type 0
 HubLaw = (calls : List Call) → Law onHub emptyHub calls
 
+-- and tickets are numbered 1, 2, 3, ..
+abbrev pub HubNumbered : Type 0
+HubNumbered = (calls : List Call) → Numbered onHub emptyHub calls
+
+-- and stand apart
 abbrev pub HubApart : Type 0
 HubApart = Apart onHub emptyHub

@@ -26,7 +26,8 @@ pub fn find(hub: Hub, ticket: u32) -> usize
 
 // Checks 11 and 12, which every call on a ticket begins with.
 pub fn locate(hub: Hub, ticket: u32) -> Located
-    ensures { λ r. ⌜ r ≡ spec.located ticket hub ⌝ }
+    ensures refusal { λ r. ⌜ spec.refusalOf r ≡ spec.ticketRefusal ticket hub ⌝ }
+    ensures located { λ r. ⌜ r ≡ spec.located ticket hub ⌝ }
 {
     if ticket == 0 {
         return Located::Refused(11);

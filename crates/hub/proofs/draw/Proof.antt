@@ -27,7 +27,7 @@ abbrev hub : tie.After-locate → Hub
 hub c = c .before .before .args .t1
 
 is-at : (c : tie.After-at) → located (c .before .before .before .before .args .ticket) (hub (c .before .before)) ≡ At (c .at .given .0 .0)
-is-at c = sym (c .before .before .locate .ensures) ∙ c .at .given .1
+is-at c = sym (c .before .before .locate .ensures .1) ∙ c .at .given .1
 
 long : (c : tie.After-locate) → length (hub c .records) ≡ 16
 long c = search (needs, unmapped)
@@ -137,7 +137,7 @@ counted-requires c κs = search needs
 
 returns-3 : tie.Need-returns-3
 returns-3 c =
-    let e = draw-refused _ _ _ _ _ _ (sym (c .before .before .before .before .locate .ensures) ∙ c .before .before .number .given .1) in
+    let e = draw-refused _ _ _ _ _ _ (sym (c .before .before .before .before .locate .ensures .1) ∙ c .before .before .number .given .1) in
     (c .refuse .ensures ∙ ap replyOf (sym e), ap (λ (s : Step Hub). s .response .buffer) (sym e))
 
 same-length : tie.Need-same-length

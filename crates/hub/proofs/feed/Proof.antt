@@ -20,7 +20,7 @@ abbrev hub : tie.After-locate → Hub
 hub c = c .before .before .args .t1
 
 is-at : (c : tie.After-place) → located (c .before .before .before .before .args .ticket) (hub (c .before .before)) ≡ At (c .place .given .0 .0)
-is-at c = sym (c .before .before .locate .ensures) ∙ c .place .given .1
+is-at c = sym (c .before .before .locate .ensures .1) ∙ c .place .given .1
 
 long : (c : tie.After-locate) → length (hub c .records) ≡ 16
 long c = search (needs, unmapped)
@@ -94,7 +94,7 @@ counted-requires c κs = search needs
 
 returns-3 : tie.Need-returns-3
 returns-3 c =
-    c .refuse .ensures ∙ sym (ap replyOf (feed-refused _ _ _ _ (sym (c .before .before .before .before .locate .ensures) ∙ c .before .before .number .given .1)))
+    c .refuse .ensures ∙ sym (ap replyOf (feed-refused _ _ _ _ (sym (c .before .before .before .before .locate .ensures .1) ∙ c .before .before .number .given .1)))
 
 returns-4 : tie.Need-returns-4
 returns-4 c =

@@ -4,7 +4,7 @@ use native.Mathlib.Omega.{arith}
 use borrow.Author.Needs.{needs}
 use lib.ListN.{length}
 use Rattle.hub.specs.Hub.{standingOf}
-use Rattle.hub.proofs.Locating.{unmapped, absent-past, absent-within, issued-no, issued-zero, issued-yes, located-never, located-closed, located-at}
+use Rattle.hub.proofs.Locating.{unmapped, absent-past, absent-within, issued-no, issued-zero, issued-yes, located-never, located-closed, located-at, located-number}
 use Rattle.hub.proofs.places.locate.Statement.{statement}
 use Rattle.hub.proofs.places.locate.Tie as tie
 
@@ -15,20 +15,25 @@ was-issued : (c : tie.Else2) → standingOf (c .before .before .before .args .ti
 was-issued c = issued-yes _ _ (c .before .before .if1 .left) (omega arith)
 
 returns : tie.Need-returns
-returns c = let a = c .before .args in sym (located-never (a .ticket) (a .hub) (ap (λ t. standingOf t (a .hub) .issued) (c .if1 .taken) ∙ issued-zero (a .hub)))
+returns c =
+    let a = c .before .args in
+    located-number _ _ _ (sym (located-never (a .ticket) (a .hub) (ap (λ t. standingOf t (a .hub) .issued) (c .if1 .taken) ∙ issued-zero (a .hub))))
 
 returns-2 : tie.Need-returns-2
-returns-2 c = sym (located-never _ _ (issued-no _ _ (c .if2 .taken)))
+returns-2 c = located-number _ _ _ (sym (located-never _ _ (issued-no _ _ (c .if2 .taken))))
 
 find-requires : tie.Need-find-requires
 find-requires c κs = search needs
 
 returns-3 : tie.Need-returns-3
-returns-3 c = sym (located-closed _ _ (was-issued (c .before .before)) (absent-past _ _ _ (c .before .find .ensures) (omega (arith, long (c .before)))))
+returns-3 c =
+    located-number _ _ _
+    (sym (located-closed _ _ (was-issued (c .before .before)) (absent-past _ _ _ (c .before .find .ensures) (omega (arith, long (c .before))))))
 
 returns-4 : tie.Need-returns-4
 returns-4 c =
-    sym (located-at _ _ _ (was-issued (c .before .before)) (absent-within _ _ _ (c .before .find .ensures) (omega (arith, long (c .before)))) (c .before .find .ensures))
+    located-number _ _ _
+    (sym (located-at _ _ _ (was-issued (c .before .before)) (absent-within _ _ _ (c .before .find .ensures) (omega (arith, long (c .before)))) (c .before .find .ensures)))
 
 pub locate-spec : {M : Type 1} → statement M
 locate-spec = tie.close (tie.spec returns returns-2 find-requires returns-3 returns-4)

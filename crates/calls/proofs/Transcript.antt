@@ -1,0 +1,54 @@
+-- One list of calls, and all that specs/Lists.antt reads off it, computed by the checker: refused calls, tickets by turns, draws inside their buffers.
+-- Assumes nothing.
+use mathlib.Core.Bool.{true, false}
+use mathlib.Core.Path.{_≡_, refl}
+use mathlib.Core.List.{List, [], _∷_, map}
+use Prim.Native.Nat.{ℕ}
+use Rattle.word.specs.Word.{bit, word, number, column, rotr}
+use Rattle.word.specs.Bytes.{weight, byteAt, bytesFrom, xorWord, xorAt, xorFrom}
+use Rattle.permutation.specs.Permutation.{sbox, addConstant, atEveryPlace, substitute, mix, diffuse, round, permute}
+use Rattle.mode.specs.Mode.{row, named}
+use Rattle.sponge.specs.Sponge.{ceiling, initial, start, pad, cut, blocks, flipIf, absorbBlocks, absorbMessage, squeezeBlocks, squeezeBytes, output, oneShot, runsFeeding, runsEnded}
+use Rattle.calls.specs.Answer.{refused, counted}
+use Rattle.calls.specs.Checks.{openChecks, ticketChecks, feedOwn, feedChecks, drawOwn, drawChecks, checkOwn, checkChecks, written}
+use Rattle.calls.specs.Call.{Call, Open, Feed, Draw, Check, Close, Sum, Event, events}
+use Rattle.calls.specs.Keyed.{find, total}
+use Rattle.calls.specs.Lists.{unissued, issuedBy, issueOf, bytesFed, bytesDrawn, feedingLasts, lastRuns, runCount, tickets, afterIssue, naming, callsOf}
+use Rattle.calls.specs.Machine.{emptyMachine, formula, runsOf, outputOf, newEntry, afterFeed, afterDraw, afterClose, placeOf, entryOf, standingOf, put}
+use Rattle.calls.specs.Machine.{openCount, admit, openMachine, feedMachine, drawMachine, checkMachine, closeMachine, sumMachine, machine}
+
+abbrev key : List ℕ
+key = 0 ∷ 1 ∷ 2 ∷ 3 ∷ 4 ∷ 5 ∷ 6 ∷ 7 ∷ 8 ∷ 9 ∷ 10 ∷ 11 ∷ 12 ∷ 13 ∷ 14 ∷ 15 ∷ []
+
+abbrev calls : List Call
+calls =
+    Feed 1 (9 ∷ []) ∷ Open 5 [] ∷ Open 3 [] ∷ Sum ∷ Open 2 key
+    ∷ Feed 1 (1 ∷ 2 ∷ 3 ∷ 4 ∷ 5 ∷ 6 ∷ 7 ∷ []) ∷ Draw 2 (0 ∷ []) 1 1 ∷ Feed 1 (8 ∷ 9 ∷ [])
+    ∷ Draw 2 (7 ∷ 7 ∷ 7 ∷ 7 ∷ []) 1 2 ∷ Feed 2 [] ∷ Draw 2 (7 ∷ 7 ∷ []) 0 1 ∷ Close 1 ∷ Feed 1 (5 ∷ [])
+    ∷ Open 2 key ∷ Check 3 (1 ∷ 2 ∷ 3 ∷ 4 ∷ 5 ∷ 6 ∷ 7 ∷ 8 ∷ []) ∷ Sum ∷ []
+
+abbrev list : List Event
+list = events machine emptyMachine calls
+
+-- the tickets that were given
+pub tickets-read : tickets list ≡ 1 ∷ 2 ∷ 3 ∷ []
+unfolding tickets events machine emptyMachine openMachine openChecks named row admit newEntry runsOf formula runsFeeding runsEnded ceiling start openCount total feedMachine drawMachine checkMachine closeMachine ticketChecks feedChecks feedOwn drawChecks drawOwn checkChecks checkOwn standingOf entryOf placeOf find afterFeed afterDraw afterClose put sumMachine
+tickets-read = refl
+
+-- of each ticket: what its open named, the bytes fed, whether feeding lasts, the run count, the bytes drawn
+pub ticket-read :
+    (issueOf 0 list ≡ unissued) × (issueOf 1 list ≡ issuedBy 3 []) × (issueOf 2 list ≡ issuedBy 2 key) × (issueOf 4 list ≡ unissued)
+    × (bytesFed 1 list ≡ 1 ∷ 2 ∷ 3 ∷ 4 ∷ 5 ∷ 6 ∷ 7 ∷ 8 ∷ 9 ∷ []) × (bytesFed 2 list ≡ []) × (bytesFed 3 list ≡ [])
+    × (feedingLasts 1 list ≡ true) × (feedingLasts 2 list ≡ false) × (feedingLasts 3 list ≡ false)
+    × (runCount 1 list ≡ 2) × (runCount 2 list ≡ 2) × (runCount 3 list ≡ 2) × (runCount 4 list ≡ 0)
+    × (bytesDrawn 1 list ≡ []) × (bytesDrawn 2 list ≡ 0xeb ∷ 0x1a ∷ 0xf6 ∷ [])
+unfolding issueOf bytesFed bytesDrawn feedingLasts lastRuns runCount events machine emptyMachine openMachine openChecks named row admit newEntry runsOf formula runsFeeding runsEnded ceiling start openCount total feedMachine drawMachine checkMachine closeMachine ticketChecks feedChecks feedOwn drawChecks drawOwn checkChecks checkOwn standingOf entryOf placeOf find afterFeed afterDraw afterClose put sumMachine written outputOf oneShot output squeezeBytes squeezeBlocks absorbMessage absorbBlocks flipIf blocks cut pad initial xorFrom xorAt xorWord bytesFrom byteAt weight permute round diffuse substitute atEveryPlace sbox addConstant mix rotr column number word bit
+ticket-read = (refl, refl, refl, refl, refl, refl, refl, refl, refl, refl, refl, refl, refl, refl, refl, refl)
+
+-- the calls that name ticket 1 once it is issued, refused ones included
+pub named-read : (callsOf (naming 1 (afterIssue 1 list))
+    ≡ Feed 1 (1 ∷ 2 ∷ 3 ∷ 4 ∷ 5 ∷ 6 ∷ 7 ∷ []) ∷ Feed 1 (8 ∷ 9 ∷ []) ∷ Close 1 ∷ Feed 1 (5 ∷ []) ∷ [])
+    × (map (λ (e : Event). e .response .answer) (naming 1 (afterIssue 1 list)) ≡ counted 1 ∷ counted 2 ∷ counted 2 ∷ refused 12 ∷ [])
+    × (callsOf (naming 3 (afterIssue 3 list)) ≡ Check 3 (1 ∷ 2 ∷ 3 ∷ 4 ∷ 5 ∷ 6 ∷ 7 ∷ 8 ∷ []) ∷ [])
+unfolding naming afterIssue callsOf events machine emptyMachine openMachine openChecks named row admit newEntry runsOf formula runsFeeding runsEnded ceiling start openCount total feedMachine drawMachine checkMachine closeMachine ticketChecks feedChecks feedOwn drawChecks drawOwn checkChecks checkOwn standingOf entryOf placeOf find afterFeed afterDraw afterClose put sumMachine
+named-read = (refl, refl, refl)
