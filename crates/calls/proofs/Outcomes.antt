@@ -13,7 +13,7 @@ use Rattle.mode.specs.declared.Mode.{Mode}
 use Rattle.mode.specs.declared.Mode.the-variants.{Prf, Mac, Hash, Xof}
 use Rattle.mode.specs.declared.Named.{Named}
 use Rattle.mode.specs.declared.Named.the-variants.{Is, NoMode}
-use Rattle.mode.specs.Mode.{row, numberOf, named, numberNamed}
+use Rattle.mode.specs.Mode.{row, numberOf, named, numberNamed, modeNumber}
 use Rattle.sponge.specs.Record.{same}
 use Rattle.mode.proofs.Modes.{number-named}
 use Rattle.calls.specs.Answer.{opened, counted, judged}
@@ -80,6 +80,7 @@ ticket-outcome c t buffer m s rest done numbers accepted =
 
 -- the mode that a number names has that number
 number-is : (n : ℕ) (mode : Mode) → named n ≡ Is mode → numberOf mode ≡ n
+unfolding modeNumber
 number-is n mode h = go (leb n 4) (ap numberNamed (sym h) ∙ number-named n)
   where
     some : (mode : Mode) → 0 < numberOf mode

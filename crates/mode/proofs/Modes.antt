@@ -1,7 +1,7 @@
 -- What the table of modes gives: rates that the other proofs use, and the modes that numbers name.
 -- Assumes nothing.
 use mathlib.Core.Bool.{cond}
-use mathlib.Core.Path.{_≡_, refl}
+use mathlib.Core.Path.{_≡_, refl, ap, _∙_}
 use Prim.Native.Nat.{ℕ, zero, suc, _%_, _^_, _≤_, _<_}
 use native.Mathlib.Omega.{arith}
 use native.Mathlib.Decide.{decLt}
@@ -9,8 +9,9 @@ use borrow.Author.Tests.{ne-eqb, lt-leb}
 use lib.Dec.{leb}
 use Rattle.mode.specs.declared.Mode.{Mode}
 use Rattle.mode.specs.declared.Mode.the-variants.{Prf, Mac, Hash, Xof}
+use Rattle.mode.specs.declared.Named.{Named}
 use Rattle.mode.specs.declared.Named.the-variants.{Is, NoMode}
-use Rattle.mode.specs.Mode.{Row, row, numberOf, named, numberNamed}
+use Rattle.mode.specs.Mode.{Row, row, numberOf, named, numberNamed, modeNumber}
 
 -- ---- rates
 
@@ -56,10 +57,14 @@ unfolding named
 named-above n h = simp (ne-eqb n 1 (λ e. omega arith), ne-eqb n 2 (λ e. omega arith), ne-eqb n 3 (λ e. omega arith), ne-eqb n 4 (λ e. omega arith))
 
 -- what a number names has that number, or it is none of 1 to 4
-pub number-named : (n : ℕ) → numberNamed (named n) ≡ cond (leb n 4) n 0
-unfolding named
+pub number-named : (n : ℕ) → numberNamed (named n) ≡ modeNumber n
+unfolding named modeNumber
 number-named n = go (decLt 4 n)
   where
     go : Dec (4 < n) → numberNamed (named n) ≡ cond (leb n 4) n 0
     go (yes l) = rw (named-above n l, lt-leb n 4 l)
     go (no l) = up-to-four (λ (n : ℕ). numberNamed (named n) ≡ cond (leb n 4) n 0) refl refl refl refl refl n (omega arith)
+
+-- both of what is promised of an answer that is `named n`
+pub named-both : (n : ℕ) (r : Named) → r ≡ named n → (numberNamed r ≡ modeNumber n) × (r ≡ named n)
+named-both n r e = (ap numberNamed e ∙ number-named n, e)

@@ -2,7 +2,7 @@
 -- Assumes nothing.
 use mathlib.Core.Bool.{Bool, true, false, cond}
 use Prim.Native.Nat.{ℕ}
-use lib.Dec.{eqb}
+use lib.Dec.{eqb, leb}
 use Rattle.mode.specs.declared.Mode.{Mode}
 use Rattle.mode.specs.declared.Mode.the-variants.{Prf, Mac, Hash, Xof}
 use Rattle.mode.specs.declared.Named.{Named}
@@ -37,6 +37,10 @@ numberOf Xof = 4
 -- the mode that a number names: one that is not 1 to 4 names none
 unfoldable pub named : ℕ → Named
 named n = cond (eqb n 1) (Is Prf) (cond (eqb n 2) (Is Mac) (cond (eqb n 3) (Is Hash) (cond (eqb n 4) (Is Xof) NoMode)))
+
+-- a number that is a mode's; 0 for any other
+unfoldable pub modeNumber : ℕ → ℕ
+modeNumber n = cond (leb n 4) n 0
 
 -- the number that such an answer stands for: the mode's, or 0
 abbrev pub numberNamed : Named → ℕ

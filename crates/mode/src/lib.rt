@@ -1,6 +1,6 @@
 // The modes, with the table of document 01's "Four modes" as associated constants. A column of the table is a method.
 ghost use mathlib.Core.Path.{_≡_};
-ghost use Rattle.mode.specs.Mode.{numberOf, named, row};
+ghost use Rattle.mode.specs.Mode.{numberOf, named, numberNamed, modeNumber, row};
 
 pub enum Mode {
     Prf,
@@ -54,7 +54,8 @@ impl Mode {
 
     // The mode that a number names. A number that is not 1 to 4 names none.
     pub fn of_number(number: u32) -> Named
-        ensures { λ r. ⌜ r ≡ named number ⌝ }
+        ensures number { λ r. ⌜ numberNamed r ≡ modeNumber number ⌝ }
+        ensures named { λ r. ⌜ r ≡ named number ⌝ }
     {
         match number {
             1 => Named::Is(Mode::Prf),

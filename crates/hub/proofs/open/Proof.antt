@@ -15,7 +15,7 @@ use Rattle.hub.proofs.open.Statement.{statement}
 use Rattle.hub.proofs.open.Tie as tie
 
 is-mode : (c : tie.After-named) → named (c .before .before .before .before .args .mode) ≡ Is (c .named .given .0 .0)
-is-mode c = sym (c .before .before .of-number .ensures) ∙ c .named .given .1
+is-mode c = sym (c .before .before .of-number .ensures .1) ∙ c .named .given .1
 
 right-key : (c : tie.Else1) → eqb (length (c .before .before .before .before .before .before .before .args .key .now)) (row (c .before .before .before .named .given .0 .0) .keyLength) ≡ true
 right-key c = eq-eqb _ _ (c .if1 .left ∙ c .before .key-length .ensures)
@@ -37,7 +37,7 @@ refuse-requires c κs = search needs
 
 returns : tie.Need-returns
 returns c =
-    c .refuse .ensures ∙ sym (ap replyOf (open-1 _ _ _ (sym (c .before .before .before .of-number .ensures) ∙ c .before .enum-told .given .1)))
+    c .refuse .ensures ∙ sym (ap replyOf (open-1 _ _ _ (sym (c .before .before .before .of-number .ensures .1) ∙ c .before .enum-told .given .1)))
 
 key-length-requires : tie.Need-key-length-requires
 key-length-requires c κs = search needs

@@ -2,30 +2,31 @@
 -- Assumes nothing.
 use borrow.Author.Tests.{ne-eqb}
 use Rattle.mode.specs.Mode.{named}
+use Rattle.mode.proofs.Modes.{named-both}
 use Rattle.mode.proofs.Mode.of_number.Statement.{statement}
 use Rattle.mode.proofs.Mode.of_number.Tie as tie
 
 returns : tie.Need-returns
 unfolding named
-returns c = rw (c .match .keys1)
+returns c = named-both _ _ (rw (c .match .keys1))
 
 returns-2 : tie.Need-returns-2
 unfolding named
-returns-2 c = rw (c .match .keys2)
+returns-2 c = named-both _ _ (rw (c .match .keys2))
 
 returns-3 : tie.Need-returns-3
 unfolding named
-returns-3 c = rw (c .match .keys3)
+returns-3 c = named-both _ _ (rw (c .match .keys3))
 
 returns-4 : tie.Need-returns-4
 unfolding named
-returns-4 c = rw (c .match .keys4)
+returns-4 c = named-both _ _ (rw (c .match .keys4))
 
 returns-5 : tie.Need-returns-5
 unfolding named
 returns-5 c =
     let other = c .match .rest in
-    simp (ne-eqb _ _ (other .0 .0 .0 .1), ne-eqb _ _ (other .0 .0 .1), ne-eqb _ _ (other .0 .1), ne-eqb _ _ (other .1))
+    named-both _ _ (simp (ne-eqb _ _ (other .0 .0 .0 .1), ne-eqb _ _ (other .0 .0 .1), ne-eqb _ _ (other .0 .1), ne-eqb _ _ (other .1)))
 
 pub of-number-spec : {M : Type 1} → statement M
 of-number-spec = tie.close (tie.spec returns returns-2 returns-3 returns-4 returns-5)
