@@ -71,7 +71,8 @@ returns-2 c =
     let freed : c .before .before .put .result ≡ putAt p vacant h = c .before .before .put .ensures ∙ ap (λ (r : Record). putAt p r h) (c .before .before .before .vacant .ensures) in
     let kept : c .before .wrapping-add-u64 .result ≡ sum64 (h .closed) (recordAt p h .runs) =
     c .before .wrapping-add-u64 .ensures ∙ ap (sum64 (h .closed)) (c .before .before .before .before .runs .ensures) in
-    let told : c .counted .result ≡ counted (recordAt p h .runs) = c .counted .ensures ∙ ap counted (c .before .before .before .before .runs .ensures) in
+    let said : c .counted .result ≡ counted (c .before .before .before .before .runs .result) = c .counted .ensures in
+    let told : c .counted .result ≡ counted (recordAt p h .runs) = said ∙ ap counted (c .before .before .before .before .runs .ensures) in
     (λ i. record { hub = record { records = freed i .records; issued = freed i .issued; closed = kept i }; answer = told i })
     ∙ sym (ap replyOf (close-done _ _ _ (is-at (c .before .before .before .before .before .before .before))))
 

@@ -1,5 +1,6 @@
 -- The invariant: what is left of the search finds the place as many places further.
-use mathlib.Core.Path.{_≡_, sym, _∙_}
+use mathlib.Core.Path.{_≡_}
+use mathlib.Core.Logic.{_≢_}
 use Prim.Native.Nat.{ℕ, _≤_, _-_, _+_}
 use native.Mathlib.Omega.{arith}
 use borrow.Author.Needs.{needs}
@@ -45,7 +46,8 @@ returns c =
     let rs = c .before .before .before .before .before .args .t1 .records in
     let i = c .before .before .before .before .loop .i in
     let t = c .before .before .before .before .before .args .ticket in
-    omega (arith, find-here rs i noRecord (omega arith) number t (sym (seen (c .before)) ∙ c .if1 .taken))
+    let here : number (getD rs i noRecord) ≡ t = omega (arith, seen (c .before), c .if1 .taken) in
+    omega (arith, find-here rs i noRecord (omega arith) number t here)
 
 add-i : tie.Need-add-i Inv-loop μ-loop
 add-i c = omega arith
@@ -58,7 +60,8 @@ loop-again c =
     let rs = c .before .before .before .before .before .args .t1 .records in
     let i = c .before .before .before .before .loop .i in
     let t = c .before .before .before .before .before .args .ticket in
-    (omega arith, omega arith, omega (arith, find-next rs i noRecord (omega arith) number t (λ e. c .if1 .left (seen (c .before) ∙ e))))
+    let further : number (getD rs i noRecord) ≢ t = λ e. omega (arith, seen (c .before), c .if1 .left) in
+    (omega arith, omega arith, omega (arith, find-next rs i noRecord (omega arith) number t further))
 
 returns-2 : tie.Need-returns-2 Inv-loop μ-loop
 returns-2 c =

@@ -1,5 +1,6 @@
 use mathlib.Core.Bool.{true}
 use mathlib.Core.Path.{_≡_, sym, ap, _∙_}
+use mathlib.Core.Logic.{_≢_}
 use native.Mathlib.Omega.{arith}
 use borrow.Author.Needs.{needs}
 use lib.ListN.{length}
@@ -12,12 +13,15 @@ long : (c : tie.After-find) → length (c .before .before .before .before .args 
 long c = search (needs, unmapped)
 
 was-issued : (c : tie.Else2) → standingOf (c .before .before .before .args .ticket) (c .before .before .before .args .hub) .issued ≡ true
-was-issued c = issued-yes _ _ (c .before .before .if1 .left) (omega arith)
+was-issued c =
+    let positive : c .before .before .before .args .ticket ≢ 0 = λ z. omega (arith, c .before .before .if1 .left) in
+    issued-yes _ _ positive (omega arith)
 
 returns : tie.Need-returns
 returns c =
     let a = c .before .args in
-    located-number _ _ _ (sym (located-never (a .ticket) (a .hub) (ap (λ t. standingOf t (a .hub) .issued) (c .if1 .taken) ∙ issued-zero (a .hub))))
+    let zeroth : a .ticket ≡ 0 = omega (arith, c .if1 .taken) in
+    located-number _ _ _ (sym (located-never (a .ticket) (a .hub) (ap (λ t. standingOf t (a .hub) .issued) zeroth ∙ issued-zero (a .hub))))
 
 returns-2 : tie.Need-returns-2
 returns-2 c = located-number _ _ _ (sym (located-never _ _ (issued-no _ _ (c .if2 .taken))))
