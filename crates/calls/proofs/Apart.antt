@@ -16,14 +16,16 @@ use Rattle.mode.specs.Mode.{named}
 use Rattle.sponge.specs.Record.{same}
 use Rattle.calls.specs.declared.Answer.{Answer}
 use Rattle.calls.specs.Answer.{counted, judged}
-use Rattle.calls.specs.Checks.{OneCheck, Standing, mostOpen, checked, openChecks, ticketChecks, feedOwn, feedChecks, drawOwn, drawChecks, checkOwn, checkChecks, written}
+use Rattle.checks.specs.Checks.{OneCheck, checked}
+use Rattle.checks.specs.Buffers.{written}
+use Rattle.calls.specs.Checks.{Standing, mostOpen, openChecks, ticketChecks, feedOwn, feedChecks, drawOwn, drawChecks, checkOwn, checkChecks}
 use Rattle.calls.specs.Call.{Call, Open, Feed, Draw, Check, Close, Sum, Response, Step, step, refuse, Event, events}
 use Rattle.calls.specs.Machine.{Entry, Machine, emptyMachine, runsOf, outputOf, newEntry, afterFeed, afterDraw, afterClose, entryOf, standingOf, put}
 use Rattle.calls.specs.Machine.{openCount, admit, openMachine, feedMachine, drawMachine, checkMachine, closeMachine, sumMachine, machine}
 use Rattle.calls.specs.Lists.{Issue, issuedBy, issueBy, issueOf, isOn, opens, afterIssue, names, naming, callsOf}
 use Rattle.calls.specs.Law.{Apart}
 use Rattle.calls.proofs.Keyed.{all, named-is}
-use Rattle.calls.proofs.Checks.{checked-both, checked-each, checked-nonzero}
+use Rattle.checks.proofs.Checks.{checked-both, checked-each, checked-nonzero}
 use Rattle.calls.proofs.Entries.{number, Sound, standingFor, entry-is, standing-is}
 use Rattle.calls.proofs.Sound.{put-here, put-other, withNew, new-here, new-other, on-ticket, sound-empty, sound-step}
 

@@ -13,7 +13,8 @@ use Rattle.sponge.specs.Sponge.{ceiling, start, oneShot, runsFeeding, runsEnded
 use Rattle.sponge.specs.Record.{same}
 use Rattle.calls.specs.declared.Answer.{Answer}
 use Rattle.calls.specs.Answer.{refused, opened, counted, judged, summed}
-use Rattle.calls.specs.Checks.{openChecks, ticketChecks, feedOwn, feedChecks, drawOwn, drawChecks, checkOwn, checkChecks, written}
+use Rattle.checks.specs.Buffers.{written}
+use Rattle.calls.specs.Checks.{openChecks, ticketChecks, feedOwn, feedChecks, drawOwn, drawChecks, checkOwn, checkChecks}
 use Rattle.calls.specs.Call.{Call, Open, Feed, Draw, Check, Close, Sum, Event, events}
 use Rattle.calls.specs.Keyed.{find, total}
 use Rattle.calls.specs.Machine.{emptyMachine, formula, runsOf, outputOf, newEntry, afterFeed, afterDraw, afterClose, placeOf, entryOf, standingOf, put}

@@ -15,7 +15,8 @@ use Rattle.sponge.specs.Sponge.{ceiling, initial, start, pad, cut, blocks, flip
 use Rattle.sponge.specs.Record.{same}
 use Rattle.sponge.proofs.Tags.{equal-same, other-same}
 use Rattle.calls.specs.Answer.{opened, judged}
-use Rattle.calls.specs.Checks.{openChecks, ticketChecks, drawOwn, drawChecks, checkOwn, checkChecks, written}
+use Rattle.checks.specs.Buffers.{written}
+use Rattle.calls.specs.Checks.{openChecks, ticketChecks, drawOwn, drawChecks, checkOwn, checkChecks}
 use Rattle.calls.specs.Call.{Open, Draw, Check, Event, events}
 use Rattle.calls.specs.Keyed.{find, total}
 use Rattle.calls.specs.Machine.{emptyMachine, formula, runsOf, outputOf, newEntry, afterDraw, placeOf, entryOf, standingOf, put}

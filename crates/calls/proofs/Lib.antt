@@ -1,7 +1,6 @@
 pub mod Keyed
 pub mod Walks
 pub mod Checks
-pub mod Buffers
 pub mod Output
 pub mod Entries
 pub mod Outcomes

@@ -18,12 +18,15 @@ use Rattle.sponge.specs.Record.{same}
 use Rattle.mode.proofs.Modes.{number-named}
 use Rattle.calls.specs.Answer.{opened, counted, judged}
 use Rattle.calls.specs.Call.{Call, Open, Feed, Draw, Check, Close, Sum, Step, step, refuse}
-use Rattle.calls.specs.Checks.{OneCheck, Standing, mostIssued, mostFed, mostOpen, checked}
-use Rattle.calls.specs.Checks.{openChecks, ticketChecks, feedOwn, feedChecks, drawOwn, drawChecks, checkOwn, checkChecks, written}
+use Rattle.checks.specs.Checks.{OneCheck, checked}
+use Rattle.calls.specs.Checks.{Standing, mostIssued, mostFed, mostOpen}
+use Rattle.checks.specs.Buffers.{written}
+use Rattle.calls.specs.Checks.{openChecks, ticketChecks, feedOwn, feedChecks, drawOwn, drawChecks, checkOwn, checkChecks}
 use Rattle.calls.specs.Machine.{Entry, Machine, runsOf, outputOf, newEntry, afterFeed, afterDraw, afterClose, entryOf, standingOf, put, openCount, admit}
 use Rattle.calls.specs.Machine.{openMachine, feedMachine, drawMachine, checkMachine, closeMachine, sumMachine, machine}
 use Rattle.calls.proofs.Keyed.{all}
-use Rattle.calls.proofs.Checks.{Pass, Nonzero, checked-nonzero, never-issued, is-closed, is-open}
+use Rattle.checks.proofs.Checks.{Pass, Nonzero, checked-nonzero}
+use Rattle.calls.proofs.Checks.{never-issued, is-closed, is-open}
 use Rattle.calls.proofs.Entries.{number, Good, Entered, missing, entered, Sound, standingFor, entry-is, standing-is, standing-none}
 
 -- ticket t is open, and e is its entry

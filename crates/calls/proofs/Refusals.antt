@@ -16,7 +16,8 @@ use Rattle.mode.specs.declared.Named.the-variants.{Is, NoMode}
 use Rattle.mode.specs.Mode.{row, numberOf}
 use Rattle.mode.proofs.Modes.{named-number}
 use Rattle.calls.specs.Call.{refuse}
-use Rattle.calls.specs.Checks.{OneCheck, checked, mostOpen, Standing, openChecks, ticketChecks, feedOwn, feedChecks, drawOwn, drawChecks, checkOwn, checkChecks}
+use Rattle.checks.specs.Checks.{OneCheck, checked}
+use Rattle.calls.specs.Checks.{mostOpen, Standing, openChecks, ticketChecks, feedOwn, feedChecks, drawOwn, drawChecks, checkOwn, checkChecks}
 use Rattle.calls.specs.Machine.{Machine, openCount, admit, openMachine}
 use Rattle.calls.proofs.Checks.{never-issued, is-closed}
 

@@ -17,11 +17,12 @@ use Rattle.sponge.specs.Sponge.{start, runsFeeding, runsEnded}
 use Rattle.mode.proofs.Modes.{rates}
 use Rattle.sponge.proofs.Drawing.{blocks-drawn}
 use Rattle.calls.specs.Call.{Call, Step, refuse, final}
-use Rattle.calls.specs.Checks.{OneCheck, Standing, mostIssued, mostFed, checked, ticketChecks}
+use Rattle.checks.specs.Checks.{OneCheck, checked}
+use Rattle.calls.specs.Checks.{Standing, mostIssued, mostFed, ticketChecks}
 use Rattle.calls.specs.Machine.{Entry, Machine, emptyMachine, formula, runsOf, newEntry, afterFeed, afterDraw, afterClose, placeOf, entryOf, standingOf}
 use Rattle.calls.specs.Machine.{put, sumMachine, machine}
 use Rattle.calls.proofs.Keyed.{most-nil, most-set, most-snoc, all, all-append, all-yes, all-no, all-here, all-other, named-is}
-use Rattle.calls.proofs.Checks.{Pass, checked-each}
+use Rattle.checks.proofs.Checks.{Pass, checked-each}
 use Rattle.calls.proofs.Entries.{number, Good, Entered, missing, entered, mostRuns, Sound, standingFor}
 use Rattle.calls.proofs.Outcomes.{OpenTicket, at-ticket, Outcome, refuses, issues, feeds, draws, checks, closes, sums, outcome}
 

@@ -15,12 +15,12 @@ use Rattle.sponge.specs.Sponge.{squeezeBytes, output, oneShot}
 use Rattle.calls.specs.declared.Answer.{Answer}
 use Rattle.calls.specs.Answer.{refused, opened, counted, judged}
 use Rattle.calls.specs.Call.{Call, Open, Feed, Draw, Check, Close, Sum, Step, step, refuse, Response, Event, events, final}
-use Rattle.calls.specs.Checks.{written}
+use Rattle.checks.specs.Buffers.{written}
 use Rattle.calls.specs.Lists.{concerns, isOn, issuedBy}
 use Rattle.calls.specs.Machine.{Entry, Machine, runsOf, outputOf, newEntry, afterFeed, afterDraw, afterClose, put, sumMachine, machine}
 use Rattle.calls.proofs.Keyed.{all, named-is}
 use Rattle.calls.proofs.Entries.{number, Good, Sound}
-use Rattle.calls.proofs.Buffers.{read-written}
+use Rattle.checks.proofs.Buffers.{read-written}
 use Rattle.calls.proofs.Output.{length-later, output-add}
 use Rattle.calls.proofs.Outcomes.{OpenTicket, Outcome, refuses, issues, feeds, draws, checks, closes, sums, outcome}
 use Rattle.calls.proofs.Sound.{put-here, put-other, withNew, new-here, new-other, sound-step}

@@ -10,7 +10,8 @@ use Rattle.permutation.specs.Permutation.{sbox, addConstant, atEveryPlace, subs
 use Rattle.mode.specs.Mode.{row, named}
 use Rattle.sponge.specs.Sponge.{ceiling, initial, start, pad, cut, blocks, flipIf, absorbBlocks, absorbMessage, squeezeBlocks, squeezeBytes, output, oneShot, runsFeeding, runsEnded}
 use Rattle.calls.specs.Answer.{refused, counted}
-use Rattle.calls.specs.Checks.{openChecks, ticketChecks, feedOwn, feedChecks, drawOwn, drawChecks, checkOwn, checkChecks, written}
+use Rattle.checks.specs.Buffers.{written}
+use Rattle.calls.specs.Checks.{openChecks, ticketChecks, feedOwn, feedChecks, drawOwn, drawChecks, checkOwn, checkChecks}
 use Rattle.calls.specs.Call.{Call, Open, Feed, Draw, Check, Close, Sum, Event, events}
 use Rattle.calls.specs.Keyed.{find, total}
 use Rattle.calls.specs.Lists.{unissued, issuedBy, issueOf, bytesFed, bytesDrawn, feedingLasts, lastRuns, runCount, tickets, afterIssue, naming, callsOf}

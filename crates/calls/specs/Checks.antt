@@ -1,15 +1,16 @@
 -- The checks of document 01's "Tickets", each call's in the paper's order, with the numbers of "Refused". The hub and the plain machine answer by these same lists:
 -- what the checks ask about a ticket is its standing, which each of the two works out in its own way.
 -- Assumes nothing.
-use mathlib.Core.Bool.{Bool, true, false, cond, not, _||_}
+use mathlib.Core.Bool.{Bool, true, false, not, _||_}
 use mathlib.Core.List.{List, [], _∷_, _++_}
 use Prim.Native.Nat.{ℕ, _+_}
 use lib.Dec.{eqb, leb, ltb}
-use lib.ListN.{length, take, drop}
+use lib.ListN.{length}
 use Rattle.mode.specs.declared.Mode.{Mode}
 use Rattle.mode.specs.declared.Named.{Named}
 use Rattle.mode.specs.declared.Named.the-variants.{Is, NoMode}
 use Rattle.mode.specs.Mode.{row, numberOf}
+use Rattle.checks.specs.Checks.{OneCheck, refusal}
 
 -- ---- limits
 
@@ -31,22 +32,6 @@ shortestTag = 8
 
 abbrev pub longestTag : ℕ
 longestTag = 16
-
--- ---- lists of checks
-
--- one check: whether it fails, and the number that is answered then
-pub record OneCheck : Type 0 where
-  pub fails : Bool
-  pub number : ℕ
-
--- check n fails where b holds
-abbrev pub refusal : ℕ → Bool → OneCheck
-refusal n b = record { fails = b; number = n }
-
--- the first check that fails is answered with its number; where none does, the call is done
-abbrev pub checked : {A : Type 0} → (ℕ → A) → List OneCheck → A → A
-checked refuse [] done = done
-checked refuse (c ∷ cs) done = cond (c .fails) (refuse (c .number)) (checked refuse cs done)
 
 -- ---- open: 1, 2, 14, 13
 
@@ -100,9 +85,3 @@ checkOwn s tag = refusal 18 (not (eqb (numberOf (s .mode)) 2)) ∷ refusal 4 (lt
 
 unfoldable pub checkChecks : Standing → List ℕ → List OneCheck
 checkChecks s tag = ticketChecks s ++ checkOwn s tag
-
--- ---- a lent buffer
-
--- bytes written from a place on; the buffer keeps its others
-unfoldable pub written : List ℕ → ℕ → List ℕ → List ℕ
-written buffer place bytes = take place buffer ++ (bytes ++ drop (place + length bytes) buffer)

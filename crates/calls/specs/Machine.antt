@@ -14,7 +14,9 @@ use Rattle.mode.specs.Mode.{row, named}
 use Rattle.sponge.specs.Sponge.{start, oneShot, runsFeeding, runsEnded}
 use Rattle.sponge.specs.Record.{same}
 use Rattle.calls.specs.Answer.{opened, counted, judged, summed}
-use Rattle.calls.specs.Checks.{Standing, mostOpen, checked, openChecks, ticketChecks, feedChecks, drawChecks, checkChecks, written}
+use Rattle.checks.specs.Checks.{checked}
+use Rattle.checks.specs.Buffers.{written}
+use Rattle.calls.specs.Checks.{Standing, mostOpen, openChecks, ticketChecks, feedChecks, drawChecks, checkChecks}
 use Rattle.calls.specs.Call.{Call, Open, Feed, Draw, Check, Close, Sum, Step, step, refuse}
 use Rattle.calls.specs.Keyed.{find, total}
 

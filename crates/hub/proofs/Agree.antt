@@ -18,12 +18,15 @@ use Rattle.sponge.proofs.Core.{sum64-fits}
 use Rattle.calls.specs.declared.Answer.{Answer}
 use Rattle.calls.specs.Answer.{opened, counted, judged, summed}
 use Rattle.calls.specs.Call.{Call, Open, Feed, Draw, Check, Close, Sum, Response, Step, step, refuse, Event, events, final}
-use Rattle.calls.specs.Checks.{OneCheck, Standing, shortestTag, longestTag, checked, openChecks, ticketChecks, feedOwn, feedChecks, drawOwn, drawChecks, checkOwn, checkChecks, written}
+use Rattle.checks.specs.Checks.{OneCheck, checked}
+use Rattle.checks.specs.Buffers.{written}
+use Rattle.calls.specs.Checks.{Standing, shortestTag, longestTag, openChecks, ticketChecks, feedOwn, feedChecks, drawOwn, drawChecks, checkOwn, checkChecks}
 use Rattle.calls.specs.Keyed.{total}
 use Rattle.calls.specs.Machine.{Entry, Machine, emptyMachine, runsOf, outputOf, newEntry, afterFeed, afterDraw, afterClose, entryOf, openMachine, feedMachine, drawMachine, checkMachine, closeMachine, sumMachine, machine}
 use Rattle.calls.specs.Machine as plain
 use Rattle.calls.proofs.Keyed.{all, named-is}
-use Rattle.calls.proofs.Checks.{Pass, checked-both, never-issued, is-closed, is-open}
+use Rattle.checks.proofs.Checks.{Pass, checked-both}
+use Rattle.calls.proofs.Checks.{never-issued, is-closed, is-open}
 use Rattle.calls.proofs.Entries.{number, Good, Entered, missing, entered, Sound, standingFor, entry-is, standing-is, standing-none}
 use Rattle.calls.proofs.Sound.{withNew, good-new, good-fed, good-drawn, sound-empty, sound-step}
 use Rattle.hub.specs.declared.Hub.{Hub}

@@ -2,13 +2,11 @@
 -- Assumes nothing.
 use mathlib.Core.Bool.{Bool, true, false, not, _||_}
 use mathlib.Core.Path.{_≡_, ap, ap₂, _∙_}
-use mathlib.Core.List.{List, [], _++_}
-use Prim.Native.Nat.{ℕ, _+_, _-_, _≤_, _<_}
-use native.Mathlib.Omega.{arith}
+use mathlib.Core.List.{List, []}
+use Prim.Native.Nat.{ℕ, _+_, _≤_, _<_}
 use borrow.Author.Tests.{le-leb, lt-leb}
 use lib.Dec.{eqb, ltb}
-use lib.ListN.{length, getD, take, drop, length-take, length-drop}
-use lib.Seq.{drop-drop}
+use lib.ListN.{length, getD}
 use Rattle.mode.specs.declared.Mode.{Mode}
 use Rattle.mode.specs.declared.Named.{Named}
 use Rattle.mode.specs.declared.Named.the-variants.{Is, NoMode}
@@ -17,22 +15,15 @@ use Rattle.mode.specs.Mode.{row, numberOf, named}
 use Rattle.sponge.specs.Record.{sum64, vacant, fresh, absorbed, finished, nextBytes, squeezed, tagMatches}
 use Rattle.calls.specs.declared.Answer.{Answer}
 use Rattle.calls.specs.Answer.{opened, counted, judged}
-use Rattle.calls.specs.Checks.{mostIssued, mostFed, shortestTag, longestTag, Standing, checked, openChecks, ticketChecks, feedOwn, feedChecks, drawOwn, drawChecks, checkOwn, checkChecks, written}
+use Rattle.checks.specs.Checks.{checked}
+use Rattle.checks.specs.Buffers.{written}
+use Rattle.calls.specs.Checks.{mostIssued, mostFed, shortestTag, longestTag, Standing, openChecks, ticketChecks, feedOwn, feedChecks, drawOwn, drawChecks, checkOwn, checkChecks}
 use Rattle.calls.specs.Call.{Step, step, refuse}
 use Rattle.hub.specs.declared.Hub.{Hub}
 use Rattle.hub.specs.declared.Reply.{Reply}
 use Rattle.hub.specs.declared.places.Located.the-variants.{At, Refused}
 use Rattle.hub.specs.Hub.{placeOf, absent, noRecord, putAt, put, standingOf, located, admit, openHub, feedHub, drawHub, checkHub, closeHub, replyOf}
 use Rattle.hub.proofs.Locating.{located-refused, located-passed, located-place, located-record}
-
--- bytes in the part of a buffer that was lent on, k of them from place on
-pub part-written : (buffer : List ℕ) (place k : ℕ) (bytes : List ℕ) → length bytes ≡ k
-    → take place buffer ++ (bytes ++ drop k (drop place buffer)) ≡ written buffer place bytes
-unfolding written
-part-written buffer place k bytes e = rw (e, drop-drop)
-
-pub part-length : (buffer : List ℕ) (place k : ℕ) → place + k ≤ length buffer → length (take (place + k - place) (drop place buffer)) ≡ k
-part-length buffer place k h = simp (length-take, length-drop) (omega arith)
 
 -- what the checks of a call ask of an open ticket's record
 abbrev pub standingAs : Record → Standing

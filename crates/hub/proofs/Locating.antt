@@ -8,8 +8,10 @@ use Prim.Native.Nat.{ℕ, _<_, _≤_}
 use native.Mathlib.Omega.{arith}
 use borrow.Author.Tests.{ne-eqb, le-leb, lt-leb, leb-false, not-true}
 use lib.ListN.{length, getD, length-map}
-use Rattle.calls.specs.Checks.{OneCheck, Standing, checked, ticketChecks}
-use Rattle.calls.proofs.Checks.{checked-both, never-issued, is-closed, is-open}
+use Rattle.checks.specs.Checks.{OneCheck, checked}
+use Rattle.calls.specs.Checks.{Standing, ticketChecks}
+use Rattle.checks.proofs.Checks.{checked-both}
+use Rattle.calls.proofs.Checks.{never-issued, is-closed, is-open}
 use Rattle.hub.specs.declared.Hub.{Hub}
 use Rattle.hub.specs.declared.places.Located.{Located}
 use Rattle.hub.specs.declared.places.Located.the-variants.{At, Refused}

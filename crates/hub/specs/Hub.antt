@@ -12,7 +12,9 @@ use Rattle.sponge.specs.declared.record.Record.{Record}
 use Rattle.mode.specs.Mode.{named}
 use Rattle.sponge.specs.Record.{sum64, vacant, fresh, absorbed, finished, nextBytes, squeezed, tagMatches}
 use Rattle.calls.specs.Answer.{opened, counted, judged, summed}
-use Rattle.calls.specs.Checks.{mostOpen, Standing, checked, openChecks, ticketChecks, feedChecks, drawChecks, checkChecks, written}
+use Rattle.checks.specs.Checks.{checked}
+use Rattle.checks.specs.Buffers.{written}
+use Rattle.calls.specs.Checks.{mostOpen, Standing, openChecks, ticketChecks, feedChecks, drawChecks, checkChecks}
 use Rattle.calls.specs.Call.{Call, Open, Feed, Draw, Check, Close, Sum, Step, step, refuse}
 use Rattle.calls.specs.Keyed.{find, total}
 use Rattle.hub.specs.declared.places.Located.{Located}

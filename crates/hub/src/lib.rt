@@ -1,11 +1,8 @@
 // The hub: sixteen places for the records of open tickets, and the six calls of document 01's "Tickets". A call takes the hub by value and gives it back in its
 // reply. Nothing else writes the hub's fields.
-mod checks;
 mod places;
 
 use calls::Answer;
-use checks::exceeds;
-use checks::wrong_tag_length;
 use mode::Mode;
 use mode::Named;
 use places::Located;
@@ -13,9 +10,12 @@ use places::find;
 use places::locate;
 use sponge::Record;
 ghost use mathlib.Core.Path.{_≡_};
+ghost use mathlib.Core.Bool.{_||_};
 ghost use mathlib.Core.List.{[]};
 ghost use Prim.Native.Nat.{_<_};
+ghost use lib.Dec.{ltb};
 ghost use Rattle.calls.specs.Call as call;
+ghost use Rattle.calls.specs.Checks.{shortestTag, longestTag};
 ghost use Rattle.hub.specs.Hub as spec;
 
 pub struct Hub {
@@ -119,7 +119,7 @@ pub fn feed(hub: Hub, ticket: u32, bytes: &[u8]) -> Reply
             if !before.feeding() {
                 return hub.refuse(15);
             }
-            if exceeds(Hub::MOST_FED, before.fed(), bytes.len() as u64) {
+            if checks::exceeds(Hub::MOST_FED, before.fed(), bytes.len() as u64) {
                 return hub.refuse(16);
             }
             let after = before.absorb(bytes);
@@ -139,12 +139,12 @@ pub fn draw(hub: Hub, ticket: u32, buffer: &mut [u8], place: usize, count: usize
     match locate(hub, ticket) {
         Located::Refused(number) => hub.refuse(number),
         Located::At(at) => {
-            if exceeds(buffer.len() as u64, place as u64, count as u64) {
+            if checks::exceeds(buffer.len() as u64, place as u64, count as u64) {
                 return hub.refuse(3);
             }
             let before = hub.records[at];
             let mode = before.mode();
-            if exceeds(mode.most_drawn() as u64, before.drawn(), count as u64) {
+            if checks::exceeds(mode.most_drawn() as u64, before.drawn(), count as u64) {
                 return hub.refuse(17);
             }
             let ended = before.finish();
@@ -156,6 +156,13 @@ pub fn draw(hub: Hub, ticket: u32, buffer: &mut [u8], place: usize, count: usize
             }
         }
     }
+}
+
+// Whether no tag has this length.
+fn wrong_tag_length(length: usize) -> bool
+    ensures { λ r. ⌜ r ≡ ltb length shortestTag || ltb longestTag length ⌝ }
+{
+    length < Hub::SHORTEST_TAG || Hub::LONGEST_TAG < length
 }
 
 // Checks 11, 12, 18, 4. Ends feeding, and draws nothing.

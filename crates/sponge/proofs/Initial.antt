@@ -1,8 +1,8 @@
 -- What the initial state is, byte by byte, for the reader of specs/Sponge.antt: the start word's eight bytes, the key, and zeros.
 -- Assumes nothing.
-use mathlib.Core.Path.{_≡_, refl, sym, ap, ap₂, _∙_}
+use mathlib.Core.Path.{_≡_, sym, ap, ap₂, _∙_}
 use mathlib.Core.List.{List, [], _∷_, _++_}
-use Prim.Native.Nat.{ℕ, zero, suc, _+_, _-_, _/_, _≤_}
+use Prim.Native.Nat.{ℕ, suc, _+_, _-_, _/_, _≤_}
 use native.Mathlib.Nat.{zero-div}
 use native.Mathlib.Omega.{arith}
 use borrow.Author.Tests.{le-leb}
@@ -10,22 +10,12 @@ use lib.Bits.{bitXor, xor-zero-r}
 use lib.ListN.{length, getD, take, replicate, length-append, length-replicate}
 use lib.Seq.{take-all}
 use Rattle.word.specs.Bytes.{byteAt, bytesFrom, xorFrom, toBytes}
+use Rattle.word.proofs.Lists.{zeros-at, then-zeros}
 use Rattle.word.proofs.Bytes.{Bytes, bytesFrom-word, bytesFrom-add, by-bytes}
 use Rattle.word.proofs.Windows.{window-past, word-xorFrom}
 use Rattle.word.proofs.Xored.{xored-from}
 use Rattle.mode.specs.Mode.{Row}
 use Rattle.sponge.specs.Sponge.{initial}
-
--- zeros, and zeros after a list, read as nothing
-zeros-at : (n i : ℕ) → getD {A = ℕ} (replicate n 0) i 0 ≡ 0
-zeros-at zero i = refl
-zeros-at (suc n) zero = refl
-zeros-at (suc n) (suc i) = zeros-at n i
-
-then-zeros : (l : List ℕ) (n i : ℕ) → getD (l ++ replicate n 0) i 0 ≡ getD l i 0
-then-zeros [] n i = zeros-at n i
-then-zeros (x ∷ l) n zero = refl
-then-zeros (x ∷ l) n (suc i) = then-zeros l n i
 
 module _ (word : ℕ) (key : List ℕ) (bytes : Bytes key) (short : length key ≤ 32) where
   abbrev unkeyed : List ℕ

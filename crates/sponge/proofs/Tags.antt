@@ -34,7 +34,7 @@ other-same xs ys ne = go (List-discrete ℕ-discrete xs ys)
     go (yes p) = absurd (ne p)
     go (no n) = refl
 
-same-equal : (xs ys : List ℕ) → same xs ys ≡ true → xs ≡ ys
+pub same-equal : (xs ys : List ℕ) → same xs ys ≡ true → xs ≡ ys
 unfolding same decide
 same-equal xs ys h = go (List-discrete ℕ-discrete xs ys) h
   where

@@ -1,4 +1,4 @@
-// Prints the outputs of the four modes for messages of many lengths, whose bytes count up from 0. The stored output, crates/vectors/stdout, is the
+// Prints the outputs of the four modes and of the short function for messages of many lengths, whose bytes count up from 0. The stored output, crates/vectors/stdout, is the
 // outside vectors: known answers that were not made with this code.
 use mode::Mode;
 use sponge::Record;
@@ -8,6 +8,7 @@ ghost use lib.ListN.{length, take};
 ghost use Rattle.mode.specs.Mode.{row};
 ghost use Rattle.sponge.specs.Sponge.{oneShot};
 ghost use Rattle.sponge.specs.Record.{absorbed};
+ghost use Rattle.prf_short.specs.Short.{prfShort};
 ghost use Rattle.vectors.specs.Text.{countingFrom, digitOf, hexOf, lengthOf};
 
 // The longest message.
@@ -115,14 +116,58 @@ fn print_mode(mode: Mode, bytes: &[u8], out: &mut [u8], text: &mut [u8])
     }
 }
 
+// The digits of the short function's output for the first m of some bytes, as many bytes as are lent for it; the first sixteen are the key.
+fn short_digits(bytes: &[u8], m: usize, out: &mut [u8], text: &mut [u8])
+    requires { ⌜ (16 ≤ length (now bytes)) × (m ≤ 16) × (1 ≤ length (now out)) × (length (now out) ≤ 16) × (2 * length (now out) ≡ length (now text)) ⌝ }
+    ensures { λ r. ⌜ now (text .exit) ≡ hexOf (prfShort (take 16 (now (bytes .entry))) (take m (now (bytes .entry))) (length (now (out .entry)))) ⌝ }
+{
+    let count = out.len();
+    let _ = prf_short::prf_short(&bytes[..16], &bytes[..m], &mut *out, count);
+    hex(&*out, text);
+}
+
+// A line of the short function: the lengths of message and output, and the digits of the output.
+fn print_short_line(bytes: &[u8], m: usize, out: &mut [u8], text: &mut [u8])
+    requires { ⌜ (16 ≤ length (now bytes)) × (m ≤ 16) × (1 ≤ length (now out)) × (length (now out) ≤ 16) × (2 * length (now out) ≡ length (now text)) ⌝ }
+{
+    short_digits(bytes, m, &mut *out, &mut *text);
+    io::print_decimal(1, m as u64);
+    io::write_all(1, b" ");
+    io::print_decimal(1, out.len() as u64);
+    io::write_all(1, b" ");
+    io::write_all(1, &*text);
+    io::write_all(1, b"\n");
+}
+
+// The lines of the short function: for each message of 0 to 16 bytes an output of each length, 1 to 16.
+fn print_short(bytes: &[u8], out: &mut [u8], text: &mut [u8])
+    requires { ⌜ (16 ≤ length (now bytes)) × (16 ≤ length (now out)) × (32 ≤ length (now text)) ⌝ }
+{
+    let mut i = 0;
+    while i < 17 * 16 {
+        let t = i % 16 + 1;
+        print_short_line(bytes, i / 16, &mut out[..t], &mut text[..2 * t]);
+        i += 1;
+    }
+}
+
+// The lines of all modes, each after its name.
+fn print_modes(bytes: &[u8])
+    requires { ⌜ 1024 ≤ length (now bytes) ⌝ }
+{
+    io::write_all(1, b"hash\n");
+    print_mode(Mode::Hash, bytes, &mut [0u8; 32], &mut [0u8; 64]);
+    io::write_all(1, b"xof\n");
+    print_mode(Mode::Xof, bytes, &mut [0u8; 64], &mut [0u8; 128]);
+    io::write_all(1, b"prf\n");
+    print_mode(Mode::Prf, bytes, &mut [0u8; 64], &mut [0u8; 128]);
+    io::write_all(1, b"mac\n");
+    print_mode(Mode::Mac, bytes, &mut [0u8; 16], &mut [0u8; 32]);
+}
+
 fn main() {
     let bytes = counting();
-    io::write_all(1, b"hash\n");
-    print_mode(Mode::Hash, &bytes, &mut [0u8; 32], &mut [0u8; 64]);
-    io::write_all(1, b"xof\n");
-    print_mode(Mode::Xof, &bytes, &mut [0u8; 64], &mut [0u8; 128]);
-    io::write_all(1, b"prf\n");
-    print_mode(Mode::Prf, &bytes, &mut [0u8; 64], &mut [0u8; 128]);
-    io::write_all(1, b"mac\n");
-    print_mode(Mode::Mac, &bytes, &mut [0u8; 16], &mut [0u8; 32]);
+    print_modes(&bytes);
+    io::write_all(1, b"prf_short\n");
+    print_short(&bytes, &mut [0u8; 16], &mut [0u8; 32]);
 }

@@ -62,6 +62,17 @@ take-bytes (suc n) (b ∷ bs) h (suc i) = take-bytes n bs (λ k. h (suc k)) i
 pub part-bytes : (n i : ℕ) (bs : List ℕ) → Bytes bs → Bytes (take n (drop i bs))
 part-bytes n i bs h = take-bytes n (drop i bs) (λ k. rw (getD-drop i bs k 0) (h (i + k)))
 
+-- and so are two lists of bytes joined, and zeros
+pub append-bytes : (xs ys : List ℕ) → Bytes xs → Bytes ys → Bytes (xs ++ ys)
+append-bytes [] ys h k i = k i
+append-bytes (x ∷ xs) ys h k zero = h 0
+append-bytes (x ∷ xs) ys h k (suc i) = append-bytes xs ys (λ j. h (suc j)) k i
+
+pub zero-bytes : (n : ℕ) → Bytes (replicate n 0)
+zero-bytes zero i = omega arith
+zero-bytes (suc n) zero = omega arith
+zero-bytes (suc n) (suc i) = zero-bytes n i
+
 pub fromBytes-lt : (bs : List ℕ) → Bytes bs → fromBytes bs < 2 ^ (8 * length bs)
 unfolding fromBytes
 fromBytes-lt [] h = omega arith

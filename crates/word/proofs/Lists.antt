@@ -6,7 +6,7 @@ use Prim.Native.Nat.{ℕ, zero, suc, _+_, _≤_, _<_, min}
 use native.Mathlib.Nat.{add-suc, not-suc-le-zero, le-of-suc-le-suc, zero-min, min-zero, suc-min-suc}
 use native.Mathlib.Numerals.{add-one}
 use native.Mathlib.Omega.{arith}
-use lib.ListN.{length, getD, set, take, drop, length-append}
+use lib.ListN.{length, getD, set, take, drop, replicate, length-append}
 use lib.Seq.{drop-cons, sets, sets-eq, take-at, length-take-le}
 
 -- ---- past the end
@@ -26,6 +26,19 @@ pub take-min : (n : ℕ) (l : List ℕ) → take (min n (length l)) l ≡ take n
 take-min zero l = rw zero-min
 take-min (suc n) [] = rw min-zero
 take-min (suc n) (x ∷ l) = rw suc-min-suc (ap (λ (t : List ℕ). x ∷ t) (take-min n l))
+
+-- ---- zeros
+
+pub zeros-at : (n i : ℕ) → getD {A = ℕ} (replicate n 0) i 0 ≡ 0
+zeros-at zero i = refl
+zeros-at (suc n) zero = refl
+zeros-at (suc n) (suc i) = zeros-at n i
+
+-- zeros after a list read as nothing
+pub then-zeros : (l : List ℕ) (n i : ℕ) → getD (l ++ replicate n 0) i 0 ≡ getD l i 0
+then-zeros [] n i = zeros-at n i
+then-zeros (x ∷ l) n zero = refl
+then-zeros (x ∷ l) n (suc i) = then-zeros l n i
 
 -- ---- reads
 

@@ -10,10 +10,11 @@ use native.Mathlib.Omega.{arith}
 use borrow.Author.Tests.{eq-eqb, ne-eqb}
 use lib.Bits.{bitXor, xor-zero-r}
 use lib.Dec.{eqb}
-use lib.ListN.{length, getD, set, take, drop, drop-of-length-le, length-set, length-drop, take-append-drop}
-use lib.Seq.{getD-set-same, getD-set-other, drop-cons, length-take-le}
-use Rattle.word.specs.Bytes.{weight, xorWord, xorAt, xorFrom, window, fromBytes}
+use lib.ListN.{length, getD, set, take, drop, replicate, drop-of-length-le, length-set, length-drop, length-replicate, take-append-drop}
+use lib.Seq.{getD-set-same, getD-set-other, drop-cons, drop-drop, length-take-le}
+use Rattle.word.specs.Bytes.{weight, xorWord, xorAt, xorFrom, window, fromBytes, wordsOf}
 use Rattle.word.proofs.Arrays.{listed, listed-same, written-out}
+use Rattle.word.proofs.Lists.{zeros-at}
 use Rattle.word.proofs.Bytes.{xor-assoc, Bytes, part-bytes, window-word}
 
 -- ---- windows
@@ -129,3 +130,25 @@ word-xorFrom (b ∷ bs) ws k j h =
 pub xorFrom-words : (n : ℕ) (bs ws : List ℕ) (k : ℕ) → length ws ≡ n → xorFrom k bs ws ≡ listed n (λ j. bitXor (getD ws j 0) (window k bs j))
 xorFrom-words n bs ws k e =
     written-out n (xorFrom k bs ws) (length-xorFrom bs ws k ∙ e) ∙ listed-same n (λ j. getD (xorFrom k bs ws) j 0) (λ j. bitXor (getD ws j 0) (window k bs j)) (λ j l. word-xorFrom bs ws k j (rw e l))
+
+-- ---- words made of bytes
+
+wordsOf-listed : (n : ℕ) (bs : List ℕ) → wordsOf n bs ≡ listed n (λ j. fromBytes (take 8 (drop (8 * j) bs)))
+unfolding wordsOf
+wordsOf-listed zero bs = refl
+wordsOf-listed (suc n) bs =
+    ap (λ (l : List ℕ). fromBytes (take 8 bs) ∷ l)
+    (wordsOf-listed n (drop 8 bs)
+    ∙ listed-same n (λ j. fromBytes (take 8 (drop (8 * j) (drop 8 bs)))) (λ j. fromBytes (take 8 (drop (8 * suc j) bs))) (λ j l. rw (drop-drop) (next j)))
+  where
+    next : (j : ℕ) → fromBytes (take 8 (drop (8 + 8 * j) bs)) ≡ fromBytes (take 8 (drop (8 * suc j) bs))
+    next j =
+        let e : 8 + 8 * j ≡ 8 * suc j = omega arith in
+        ap (λ (k : ℕ). fromBytes (take 8 (drop k bs))) e
+
+-- the words that bytes make are zeros with the bytes xored in
+pub words-xored : (n : ℕ) (bs : List ℕ) → Bytes bs → length bs ≡ 8 * n → wordsOf n bs ≡ xorFrom 0 bs (replicate n 0)
+words-xored n bs bytes e =
+    wordsOf-listed n bs
+    ∙ sym (xorFrom-words n bs (replicate n 0) 0 (length-replicate n 0)
+    ∙ listed-same n (λ j. bitXor (getD (replicate n 0) j 0) (window 0 bs j)) (λ j. fromBytes (take 8 (drop (8 * j) bs))) (λ j l. rw (zeros-at n j) (rw sub-zero at (window-all bs 0 j bytes (omega arith) (omega arith)))))

@@ -5,17 +5,19 @@ use mathlib.Core.Bool.{Bool, true, false, cond}
 use mathlib.Core.Path.{_≡_, refl, sym, ap, _∙_}
 use mathlib.Core.Logic.{_≢_}
 use mathlib.Core.List.{List, [], _∷_}
-use Prim.Native.Nat.{ℕ, suc, _+_, _*_, _-_, _^_, _/_, _%_, _<_, _≤_}
+use Prim.Native.Nat.{ℕ, zero, suc, _+_, _*_, _-_, _^_, _/_, _%_, _<_, _≤_}
 use native.Mathlib.Omega.{arith}
-use native.Mathlib.Nat.{mod-eq-of-lt, div-eq-of-lt, mul-mod-left, mul-assoc, lt-of-lt-of-le, sub-zero, div-one}
+use native.Mathlib.Nat.{zero-add, zero-div, mod-eq-of-lt, div-eq-of-lt, mul-mod-left, mul-assoc, lt-of-lt-of-le, sub-zero, div-one}
 use borrow.Author.Tests.{eqb-true, eqb-false, ne-eqb, ltb-true, ltb-false, le-leb, lt-leb}
 use lib.Bits.{bitXor, xor-shr, xor-mod, xor-zero-r}
 use lib.Dec.{eqb, leb, ltb, lit<}
-use lib.ListN.{length, getD, length-set}
+use lib.ListN.{length, getD, replicate, length-set, length-replicate}
 use lib.Pow.{pow-mono, pow-add, shl-lt, shl-shr}
 use lib.Seq.{getD-set-same, getD-set-other}
-use Rattle.word.specs.Bytes.{weight, byteAt, xorWord, xorAt, xorFrom}
-use Rattle.word.proofs.Bytes.{Bytes}
+use Rattle.word.specs.Bytes.{weight, byteAt, bytesFrom, xorWord, xorAt, xorFrom, xorBytes, wordsOf}
+use Rattle.word.proofs.Lists.{zeros-at}
+use Rattle.word.proofs.Bytes.{Bytes, by-bytes}
+use Rattle.word.proofs.Windows.{words-xored}
 
 -- a byte of an exclusive or
 byte-xor : (k x y : ℕ) → bitXor x y / 2 ^ k % 256 ≡ bitXor (x / 2 ^ k % 256) (y / 2 ^ k % 256)
@@ -115,3 +117,27 @@ last-byte ws = rw div-one
 pub flipped-byte : (ws : List ℕ) (m : ℕ) → length ws ≡ 5 → byteAt (xorWord 4 1 ws) m ≡ bitXor (byteAt ws m) (cond (eqb 39 m) 1 0)
 unfolding xorAt weight
 flipped-byte ws m e = xored-byte 39 1 m ws (omega arith) (lit< tt)
+
+-- ---- two lists of bytes
+
+pub length-xorBytes : (xs ys : List ℕ) → length xs ≡ length ys → length (xorBytes xs ys) ≡ length ys
+unfolding xorBytes
+length-xorBytes [] ys e = e
+length-xorBytes (x ∷ xs) [] e = refl
+length-xorBytes (x ∷ xs) (y ∷ ys) e = ap suc (length-xorBytes xs ys (omega arith))
+
+-- byte i is the two lists' bytes i, xored
+pub xorBytes-at : (xs ys : List ℕ) (i : ℕ) → length xs ≡ length ys → getD (xorBytes xs ys) i 0 ≡ bitXor (getD xs i 0) (getD ys i 0)
+unfolding xorBytes
+xorBytes-at [] [] i e = refl
+xorBytes-at [] (y ∷ ys) i e = absurd (omega arith)
+xorBytes-at (x ∷ xs) [] i e = absurd (omega arith)
+xorBytes-at (x ∷ xs) (y ∷ ys) zero e = refl
+xorBytes-at (x ∷ xs) (y ∷ ys) (suc i) e = xorBytes-at xs ys i (omega arith)
+
+-- the words that bytes make, read as bytes, are these bytes
+pub words-read : (n : ℕ) (bs : List ℕ) → Bytes bs → length bs ≡ 8 * n → bytesFrom 0 (8 * n) (wordsOf n bs) ≡ bs
+unfolding byteAt
+words-read n bs bytes e =
+    rw (words-xored n bs bytes e, ← e)
+    (sym (by-bytes bs 0 (xorFrom 0 bs (replicate n 0)) (λ i l. sym (xored-block bs (replicate n 0) (rw (length-replicate {A = ℕ} n 0) (omega arith)) bytes (0 + i) ∙ rw (zeros-at n ((0 + i) / 8), zero-div, zero-add)))))

@@ -1,11 +1,12 @@
 -- Bytes of 64-bit words, the highest byte of a word first: byte k of some words is byte k % 8, from the top, of word k / 8.
--- A word past the end reads 0, and is not written. What xoring means byte by byte say `xored-byte` and `xored-block` (proofs/Xored.antt).
+-- A word past the end reads 0, and is not written. What xoring means byte by byte say `xored-byte` and `xored-block`, and that the bytes of the words that
+-- bytes make are these bytes says `words-read` (all in proofs/Xored.antt).
 -- Assumes nothing.
 use mathlib.Core.Bool.{cond}
 use mathlib.Core.List.{List, [], _∷_}
 use Prim.Native.Nat.{ℕ, zero, suc, _+_, _-_, _*_, _/_, _%_, _^_}
 use lib.Dec.{eqb}
-use lib.ListN.{length, getD, set}
+use lib.ListN.{length, getD, set, take, drop}
 use lib.Bits.{bitXor}
 
 -- what byte k counts in its word
@@ -34,7 +35,13 @@ unfoldable pub xorFrom : ℕ → List ℕ → List ℕ → List ℕ
 xorFrom k [] ws = ws
 xorFrom k (b ∷ bs) ws = xorFrom (suc k) bs (xorAt k b ws)
 
--- ---- bytes as numbers: ways to say the same that code goes by
+-- two lists of bytes, xored byte by byte as far as both go
+unfoldable pub xorBytes : List ℕ → List ℕ → List ℕ
+xorBytes [] ys = []
+xorBytes (x ∷ xs) [] = []
+xorBytes (x ∷ xs) (y ∷ ys) = bitXor x y ∷ xorBytes xs ys
+
+-- ---- bytes as numbers
 
 -- the number that bytes make in word j, if the first of them stands at byte k
 unfoldable pub window : ℕ → List ℕ → ℕ → ℕ
@@ -50,3 +57,8 @@ fromBytes (b ∷ bs) = b * 2 ^ (8 * length bs) + fromBytes bs
 unfoldable pub toBytes : ℕ → ℕ → List ℕ
 toBytes zero x = []
 toBytes (suc n) x = x / 2 ^ (8 * n) % 256 ∷ toBytes n x
+
+-- the n words that bytes make, eight to a word
+unfoldable pub wordsOf : ℕ → List ℕ → List ℕ
+wordsOf zero bs = []
+wordsOf (suc n) bs = fromBytes (take 8 bs) ∷ wordsOf n (drop 8 bs)

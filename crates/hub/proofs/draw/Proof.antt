@@ -19,7 +19,8 @@ use Rattle.hub.specs.declared.Hub.{Hub}
 use Rattle.hub.specs.declared.places.Located.the-variants.{At}
 use Rattle.hub.specs.Hub.{located, replyOf}
 use Rattle.hub.proofs.Locating.{unmapped, located-within}
-use Rattle.hub.proofs.Calls.{recordAt, part-written, part-length, draw-refused, draw-3, draw-17, draw-done}
+use Rattle.checks.proofs.Buffers.{part-written, part-length}
+use Rattle.hub.proofs.Calls.{recordAt, draw-refused, draw-3, draw-17, draw-done}
 use Rattle.hub.proofs.draw.Statement.{statement}
 use Rattle.hub.proofs.draw.Tie as tie
 

@@ -1,10 +1,7 @@
-// Tests of lengths that checks make.
-use super::Hub;
+// Checks that calls begin with. The definitions of this crate say how a list of them answers, and what a lent buffer holds after bytes were written into it.
 ghost use mathlib.Core.Path.{_≡_};
-ghost use mathlib.Core.Bool.{_||_};
 ghost use Prim.Native.Nat.{_+_};
 ghost use lib.Dec.{ltb};
-ghost use Rattle.calls.specs.Checks.{shortestTag, longestTag};
 
 // Whether two numbers add up to more than the limit, also where their sum has more than 64 bits.
 pub fn exceeds(limit: u64, a: u64, b: u64) -> bool
@@ -17,11 +14,4 @@ pub fn exceeds(limit: u64, a: u64, b: u64) -> bool
         return true;
     }
     false
-}
-
-// Whether no tag has this length.
-pub fn wrong_tag_length(length: usize) -> bool
-    ensures { λ r. ⌜ r ≡ ltb length shortestTag || ltb longestTag length ⌝ }
-{
-    length < Hub::SHORTEST_TAG || Hub::LONGEST_TAG < length
 }

@@ -2,8 +2,8 @@ use mathlib.Core.Path.{sym}
 use Prim.Native.Nat.{_+_}
 use native.Mathlib.Omega.{arith}
 use borrow.Author.Tests.{lt-ltb, le-ltb}
-use Rattle.hub.proofs.checks.exceeds.Statement.{statement}
-use Rattle.hub.proofs.checks.exceeds.Tie as tie
+use Rattle.checks.proofs.exceeds.Statement.{statement}
+use Rattle.checks.proofs.exceeds.Tie as tie
 
 returns : tie.Need-returns
 returns c = let a = c .before .args in sym (lt-ltb (a .limit) (a .a + a .b) (omega arith))

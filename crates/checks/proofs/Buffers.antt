@@ -1,12 +1,12 @@
--- A lent buffer after a draw: bytes stand where they were written, and every other byte is as it was.
+-- A lent buffer after bytes were written into it: they stand where they were written, and every other byte is as it was.
 -- Assumes nothing.
 use mathlib.Core.Path.{_≡_, sym, ap, _∙_}
 use mathlib.Core.List.{List, _++_}
 use Prim.Native.Nat.{ℕ, _+_, _-_, _≤_, _<_}
 use native.Mathlib.Omega.{arith}
-use lib.ListN.{length, take, drop, getD, length-append, length-drop, List·getD-append}
-use lib.Seq.{length-take-le, take-at, drop-at, getD-append-add, getD-take, getD-drop}
-use Rattle.calls.specs.Checks.{written}
+use lib.ListN.{length, take, drop, getD, length-append, length-take, length-drop, List·getD-append}
+use lib.Seq.{length-take-le, take-at, drop-at, drop-drop, getD-append-add, getD-take, getD-drop}
+use Rattle.checks.specs.Buffers.{written}
 
 -- the bytes lie in the buffer from place on
 module _ (buffer : List ℕ) (place : ℕ) (bytes : List ℕ) (fits : place + length bytes ≤ length buffer) where
@@ -49,3 +49,15 @@ module _ (buffer : List ℕ) (place : ℕ) (bytes : List ℕ) (fits : place + le
       ∙ getD-append-add bytes (drop (place + length bytes) buffer) (i - (place + length bytes)) z
       ∙ getD-drop (place + length bytes) buffer (i - (place + length bytes)) z
       ∙ ap (λ (j : ℕ). getD buffer j z) (sym e')
+
+-- ---- a part of a buffer that is lent on, k bytes from place on
+
+-- the whole buffer, once bytes stand in that part
+pub part-written : (buffer : List ℕ) (place k : ℕ) (bytes : List ℕ) → length bytes ≡ k
+    → take place buffer ++ (bytes ++ drop k (drop place buffer)) ≡ written buffer place bytes
+unfolding written
+part-written buffer place k bytes e = rw (e, drop-drop)
+
+-- the part's length
+pub part-length : (buffer : List ℕ) (place k : ℕ) → place + k ≤ length buffer → length (take (place + k - place) (drop place buffer)) ≡ k
+part-length buffer place k h = simp (length-take, length-drop) (omega arith)

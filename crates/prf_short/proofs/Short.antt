@@ -1,0 +1,101 @@
+-- The short function by words, as the code goes: the start with key and message xored in, and the output with the key xored in where the output is read.
+-- Assumes nothing.
+use mathlib.Core.Path.{_≡_, refl, sym, ap, _∙_}
+use mathlib.Core.List.{List, [], _∷_, _++_}
+use Prim.Native.Nat.{ℕ, zero, suc, _+_, _-_, _*_, _≤_, _<_}
+use native.Mathlib.Omega.{arith}
+use borrow.Author.Tests.{le-leb}
+use lib.ListN.{length, getD, drop, replicate, length-append, length-drop, length-replicate}
+use lib.Seq.{ext-getD, getD-drop}
+use Rattle.word.specs.Bytes.{bytesFrom, xorFrom, xorBytes, fromBytes, wordsOf}
+use Rattle.word.proofs.Bytes.{Bytes, append-bytes, zero-bytes, xorFrom-append, xorFrom-zeros, length-bytesFrom, bytesFrom-at}
+use Rattle.word.proofs.Windows.{words-xored}
+use Rattle.word.proofs.Xored.{xored-from, length-xorBytes, xorBytes-at, words-read}
+use Rattle.prf_short.specs.Short.{zerosTo, lastBytes, startValue, startWord, start}
+
+-- ---- the start
+
+module _ (m t : ℕ) (few : m ≤ 16) (short : t ≤ 16) where
+  value-bytes : Bytes (startValue m t)
+  unfolding startValue
+  value-bytes zero = omega arith
+  value-bytes (suc zero) = omega arith
+  value-bytes (suc (suc zero)) = omega arith
+  value-bytes (suc (suc (suc zero))) = omega arith
+  value-bytes (suc (suc (suc (suc i)))) = zero-bytes 4 i
+
+  -- the first eight bytes make the first word
+  value-word : xorFrom 0 (startValue m t) (replicate 5 0) ≡ startWord m t ∷ 0 ∷ 0 ∷ 0 ∷ 0 ∷ []
+  unfolding startValue wordsOf fromBytes
+  value-word =
+      let filled : wordsOf 5 (startValue m t ++ replicate 32 0) ≡ xorFrom 0 (startValue m t ++ replicate 32 0) (replicate 5 0) =
+      words-xored 5 (startValue m t ++ replicate 32 0) (append-bytes (startValue m t) (replicate 32 0) value-bytes (zero-bytes 32)) refl in
+      sym (filled ∙ xorFrom-append (startValue m t) (replicate 32 0) 0 (replicate 5 0) ∙ xorFrom-zeros 32 8 (xorFrom 0 (startValue m t) (replicate 5 0)))
+
+module _ (key message : List ℕ) (t : ℕ) (bytes : Bytes key) (bytes′ : Bytes message) (n : length key ≡ 16) (few : length message ≤ 16) (short : t ≤ 16) where
+  abbrev parts : List ℕ
+  parts = startValue (length message) t ++ (key ++ message)
+
+  length-parts : length parts ≡ 24 + length message
+  unfolding startValue
+  length-parts = simp (length-append) (omega arith)
+
+  length-start : length (start key message t) ≡ 8 * 5
+  unfolding start zerosTo
+  length-start =
+      length-append parts (replicate (40 - length parts) 0) ∙ ap (λ (k : ℕ). length parts + k) (length-replicate (40 - length parts) 0)
+      ∙ omega (arith, length-parts)
+
+  all-bytes : Bytes (start key message t)
+  unfolding start zerosTo
+  all-bytes =
+      append-bytes parts (replicate (40 - length parts) 0)
+      (append-bytes (startValue (length message) t) (key ++ message) (value-bytes (length message) t few short) (append-bytes key message bytes bytes′))
+      (zero-bytes (40 - length parts))
+
+  -- the words that the permutation gets, read as bytes, are the forty bytes of the start
+  pub start-read : bytesFrom 0 40 (wordsOf 5 (start key message t)) ≡ start key message t
+  start-read = words-read 5 (start key message t) all-bytes length-start
+
+  -- and made by the code: the start word and zeros, with the key and the message xored in
+  pub started : xorFrom 24 message (xorFrom 8 key (startWord (length message) t ∷ 0 ∷ 0 ∷ 0 ∷ 0 ∷ [])) ≡ wordsOf 5 (start key message t)
+  unfolding start zerosTo startValue
+  started =
+      sym (words-xored 5 (start key message t) all-bytes length-start
+      ∙ xorFrom-append parts (replicate (40 - length parts) 0) 0 (replicate 5 0)
+      ∙ xorFrom-zeros (40 - length parts) (0 + length parts) (xorFrom 0 parts (replicate 5 0))
+      ∙ xorFrom-append (startValue (length message) t) (key ++ message) 0 (replicate 5 0)
+      ∙ ap (xorFrom 8 (key ++ message)) (value-word (length message) t few short)
+      ∙ xorFrom-append key message 8 (startWord (length message) t ∷ 0 ∷ 0 ∷ 0 ∷ 0 ∷ [])
+      ∙ rw n)
+
+-- ---- the output
+
+-- a state's last t bytes with the key xored into its last sixteen, and the two lists of last bytes, xored
+pub last-xored : (s key : List ℕ) (t : ℕ) → length s ≡ 5 → Bytes key → length key ≡ 16 → t ≤ 16
+    → bytesFrom (40 - t) t (xorFrom 24 key s) ≡ xorBytes (lastBytes t (bytesFrom 0 40 s)) (lastBytes t key)
+unfolding lastBytes
+last-xored s key t five bytes n short =
+    ext-getD 0 (bytesFrom (40 - t) t (xorFrom 24 key s)) (xorBytes a b) (length-bytesFrom t (40 - t) (xorFrom 24 key s) ∙ sym (length-xorBytes a b (la ∙ sym lb) ∙ lb)) each
+  where
+    a : List ℕ
+    a = drop (length (bytesFrom 0 40 s) - t) (bytesFrom 0 40 s)
+
+    b : List ℕ
+    b = drop (length key - t) key
+
+    la : length a ≡ t
+    la = length-drop (length (bytesFrom 0 40 s) - t) (bytesFrom 0 40 s) ∙ omega (arith, length-bytesFrom 40 0 s)
+
+    lb : length b ≡ t
+    lb = length-drop (length key - t) key ∙ omega arith
+
+    each : (i : ℕ) → i < length (bytesFrom (40 - t) t (xorFrom 24 key s)) → getD (bytesFrom (40 - t) t (xorFrom 24 key s)) i 0 ≡ getD (xorBytes a b) i 0
+    each i l =
+        let inside : i < t = omega (arith, length-bytesFrom t (40 - t) (xorFrom 24 key s)) in
+        let place : 40 - t + i - 24 ≡ length key - t + i = omega arith in
+        let place′ : 40 - t + i ≡ 0 + (length (bytesFrom 0 40 s) - t + i) = omega (arith, length-bytesFrom 40 0 s) in
+        bytesFrom-at t (40 - t) i (xorFrom 24 key s) inside
+        ∙ xored-from key 24 (40 - t + i) s (omega arith) bytes
+        ∙ rw (le-leb 24 (40 - t + i) (omega arith), place, ← getD-drop (length key - t) key i 0, place′, ← bytesFrom-at 40 0 (length (bytesFrom 0 40 s) - t + i) s (omega (arith, length-bytesFrom 40 0 s)), ← getD-drop (length (bytesFrom 0 40 s) - t) (bytesFrom 0 40 s) i 0)
+        (sym (xorBytes-at a b i (la ∙ sym lb)))

@@ -1,0 +1,74 @@
+// The short function: an output of up to sixteen bytes for a message of up to sixteen, by one permutation.
+ghost use mathlib.Core.Path.{_≡_};
+ghost use Prim.Native.Nat.{_≤_};
+ghost use lib.ListN.{length};
+ghost use Rattle.prf_short.specs.Short.{startWord, prfShort};
+ghost use Rattle.prf_short.specs.Call.{wrongOutput, shortAnswer, shortAfter};
+
+pub const KEY_LENGTH: usize = 16;
+
+pub const LONGEST_MESSAGE: usize = 16;
+
+pub const LONGEST_OUTPUT: usize = 16;
+
+// The bytes of the state at which the key and the message begin. The last bytes of the state, with which the key is xored again, are as many as the key's.
+const KEY_PLACE: u32 = 8;
+
+const MESSAGE_PLACE: u32 = 24;
+
+const OUTPUT_PLACE: u32 = 24;
+
+// The start word but for both lengths: the key's bits and the rounds.
+const START: u64 = 0x8000_4c00_0000_0000;
+
+// The start word for a message of m bytes and an output of t: both in bits, in its second and its fourth byte.
+fn start_word(m: usize, t: usize) -> u64
+    requires { ⌜ (m ≤ 16) × (t ≤ 16) ⌝ }
+    ensures { λ r. ⌜ r ≡ startWord m t ⌝ }
+{
+    START + (m as u64) * 0x0008_0000_0000_0000 + (t as u64) * 0x0000_0008_0000_0000
+}
+
+// The output, as long as the buffer.
+fn output(key: &[u8], message: &[u8], out: &mut [u8])
+    requires { ⌜ (length (now key) ≡ 16) × (length (now message) ≤ 16) × (length (now out) ≤ 16) ⌝ }
+    ensures { λ _. ⌜ now (out .exit) ≡ prfShort (now (key .entry)) (now (message .entry)) (length (now (out .entry))) ⌝ }
+{
+    let unkeyed = [start_word(message.len(), out.len()), 0, 0, 0, 0];
+    let keyed = state::xor_bytes(unkeyed, KEY_PLACE, key);
+    let start = state::xor_bytes(keyed, MESSAGE_PLACE, message);
+    let ended = permutation::permute(start);
+    let masked = state::xor_bytes(ended, OUTPUT_PLACE, key);
+    state::copy_bytes(masked, (40 - out.len()) as u32, out);
+}
+
+// Whether an output has not this length, or not as many bytes are lent for it.
+fn wrong_output(lent: usize, length: usize) -> bool
+    ensures { λ r. ⌜ r ≡ wrongOutput lent length ⌝ }
+{
+    if length < 1 {
+        return true;
+    }
+    if LONGEST_OUTPUT < length {
+        return true;
+    }
+    lent != length
+}
+
+// Checks 2, 5, 6. The buffer gets an output of its own length; it stays as it is where the call is refused.
+pub fn prf_short(key: &[u8], message: &[u8], out: &mut [u8], length: usize) -> u32
+    ensures answer { λ r. ⌜ r ≡ shortAnswer (now (key .entry)) (now (message .entry)) (now (out .entry)) length ⌝ }
+    ensures after { λ r. ⌜ now (out .exit) ≡ shortAfter (now (key .entry)) (now (message .entry)) (now (out .entry)) length ⌝ }
+{
+    if key.len() != KEY_LENGTH {
+        return 2;
+    }
+    if LONGEST_MESSAGE < message.len() {
+        return 5;
+    }
+    if wrong_output(out.len(), length) {
+        return 6;
+    }
+    output(key, message, out);
+    0
+}
