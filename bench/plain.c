@@ -99,3 +99,43 @@ uint64_t plain_mac(const uint8_t key[16], const uint8_t *message, size_t length,
     store(out + 8, s[1]);
     return runs + 1;
 }
+
+uint32_t plain_seal_frame(const uint8_t *key, size_t key_length, uint8_t *frame, size_t frame_length, size_t body) {
+    if (key_length != 16) return 2;
+    if (frame_length < 16 || body > frame_length - 16) return 3;
+    plain_mac(key, frame, body, frame + body);
+    return 0;
+}
+
+uint32_t plain_verify_frame(const uint8_t *key, size_t key_length, const uint8_t *frame, size_t frame_length, size_t body) {
+    uint8_t tag[16], difference = 0;
+    if (key_length != 16) return 2;
+    if (frame_length < 16 || body > frame_length - 16) return 3;
+    plain_mac(key, frame, body, tag);
+    for (size_t i = 0; i < 16; i++) difference |= tag[i] ^ frame[body + i];
+    return difference ? 255 : 0;
+}
+
+/* Up to sixteen bytes as two words, the first on top; zeros after them. */
+static inline void load_short(const uint8_t *bytes, size_t n, uint64_t words[2]) {
+    uint8_t filled[16] = {0};
+    for (size_t i = 0; i < n; i++) filled[i] = bytes[i];
+    words[0] = load(filled);
+    words[1] = load(filled + 8);
+}
+
+uint32_t plain_prf_short(const uint8_t *key, size_t key_length, const uint8_t *message, size_t message_length, uint8_t *out, size_t out_length,
+                         size_t length) {
+    uint64_t m[2];
+    uint8_t last[16];
+    if (key_length != 16) return 2;
+    if (message_length > 16) return 5;
+    if (length < 1 || length > 16 || out_length != length) return 6;
+    load_short(message, message_length, m);
+    uint64_t s[5] = {(uint64_t)0x80 << 56 | (uint64_t)message_length << 51 | (uint64_t)0x4c << 40 | (uint64_t)length << 35, load(key), load(key + 8), m[0], m[1]};
+    permute(s);
+    store(last, s[3] ^ load(key));
+    store(last + 8, s[4] ^ load(key + 8));
+    for (size_t i = 0; i < length; i++) out[i] = last[16 - length + i];
+    return 0;
+}

@@ -1,4 +1,5 @@
-/* The same functions in plain C, as the proved code's peers: compiled by gcc -O3, in a file of their own so that nothing is inlined into the timing loop. */
+/* The same functions in plain C, as the proved code's peers: compiled by gcc -O3, in a file of their own so that nothing is inlined into the timing loop. The tests
+ * from C compare with them too. */
 #ifndef PLAIN_H
 #define PLAIN_H
 
@@ -11,5 +12,11 @@ uint64_t plain_permute_chain(uint64_t x0, uint64_t times);
 /* The hash and the MAC of a message, 32 and 16 bytes; the answer is how many times the state was permuted. */
 uint64_t plain_hash(const uint8_t *message, size_t length, uint8_t out[32]);
 uint64_t plain_mac(const uint8_t key[16], const uint8_t *message, size_t length, uint8_t out[16]);
+
+/* The functions of include/sign.h. */
+uint32_t plain_prf_short(const uint8_t *key, size_t key_length, const uint8_t *message, size_t message_length, uint8_t *out, size_t out_length,
+                         size_t length);
+uint32_t plain_seal_frame(const uint8_t *key, size_t key_length, uint8_t *frame, size_t frame_length, size_t body);
+uint32_t plain_verify_frame(const uint8_t *key, size_t key_length, const uint8_t *frame, size_t frame_length, size_t body);
 
 #endif

@@ -1,4 +1,5 @@
-// The permutation and the sponge as C calls them: for the test bench of document 01, the benchmarks under bench/ and the tests under tests/.
+// The permutation and the sponge, and the runs that frames report, as C calls them: for the test bench of document 01, the benchmarks under bench/ and the tests
+// under tests/.
 use mode::Mode;
 use mode::Named;
 use sponge::Record;
@@ -8,6 +9,7 @@ ghost use lib.ListN.{length};
 ghost use Rattle.permutation.specs.Permutation.{at, run};
 ghost use Rattle.permutation.specs.Row.{rowAnswer, rowAfter};
 ghost use Rattle.mode.specs.Mode.{named};
+ghost use Rattle.frame.specs.Frame.{sealAnswer, sealAfter, verifyAnswer};
 ghost use Rattle.bench.specs.Chain.{repeated};
 ghost use Rattle.sponge.specs.Streaming.{absorbedParts, nextParts, squeezedParts};
 ghost use Rattle.bench.specs.Sponge.{partsAt, countsAt, spongeRuns, spongeOut, tagAnswer};
@@ -90,4 +92,23 @@ pub extern "C" fn bench_tag(key: &[u8], message: &[u8], tag: &[u8]) -> u32
         return 1;
     }
     0
+}
+
+// How many runs sealing a frame reports, which C is not told else; 0 where it is refused. The frame is sealed.
+#[no_mangle]
+pub extern "C" fn bench_seal_runs(key: &[u8], frame: &mut [u8], body: usize) -> u64
+    ensures answer { λ r. ⌜ r ≡ sealAnswer (now (key .entry)) (now (frame .entry)) body .runs ⌝ }
+    ensures after { λ r. ⌜ now (frame .exit) ≡ sealAfter (now (key .entry)) (now (frame .entry)) body ⌝ }
+{
+    let sealed = frame::seal(key, frame, body);
+    sealed.runs
+}
+
+// And judging one.
+#[no_mangle]
+pub extern "C" fn bench_verify_runs(key: &[u8], frame: &[u8], body: usize) -> u64
+    ensures { λ r. ⌜ r ≡ verifyAnswer (now (key .entry)) (now (frame .entry)) body .runs ⌝ }
+{
+    let judged = frame::verify(key, frame, body);
+    judged.runs
 }

@@ -1,4 +1,4 @@
--- The short function by words, as the code goes: the start with key and message xored in, and the output with the key xored in where the output is read.
+-- The short function by words, as the code goes: the start word, two words of the key and two of the message; and the key's words xored into the last two of the state.
 -- Assumes nothing.
 use mathlib.Core.Path.{_≡_, refl, sym, ap, _∙_}
 use mathlib.Core.List.{List, [], _∷_, _++_}
@@ -7,9 +7,11 @@ use native.Mathlib.Omega.{arith}
 use borrow.Author.Tests.{le-leb}
 use lib.ListN.{length, getD, drop, replicate, length-append, length-drop, length-replicate}
 use lib.Seq.{ext-getD, getD-drop}
-use Rattle.word.specs.Bytes.{bytesFrom, xorFrom, xorBytes, fromBytes, wordsOf}
+use lib.Bits.{bitXor, xor-zero-r}
+use Rattle.word.specs.Bytes.{bytesFrom, xorFrom, xorBytes, window, fromBytes, wordsOf}
+use Rattle.word.proofs.Arrays.{written-out, cons-same}
 use Rattle.word.proofs.Bytes.{Bytes, append-bytes, zero-bytes, xorFrom-append, xorFrom-zeros, length-bytesFrom, bytesFrom-at}
-use Rattle.word.proofs.Windows.{words-xored}
+use Rattle.word.proofs.Windows.{window-past, window-before, window-moved, length-xorFrom, word-xorFrom, words-xored}
 use Rattle.word.proofs.Xored.{xored-from, length-xorBytes, xorBytes-at, words-read}
 use Rattle.prf_short.specs.Short.{zerosTo, lastBytes, startValue, startWord, start}
 
@@ -57,17 +59,37 @@ module _ (key message : List ℕ) (t : ℕ) (bytes : Bytes key) (bytes′ : Byte
   pub start-read : bytesFrom 0 40 (wordsOf 5 (start key message t)) ≡ start key message t
   start-read = words-read 5 (start key message t) all-bytes length-start
 
-  -- and made by the code: the start word and zeros, with the key and the message xored in
-  pub started : xorFrom 24 message (xorFrom 8 key (startWord (length message) t ∷ 0 ∷ 0 ∷ 0 ∷ 0 ∷ [])) ≡ wordsOf 5 (start key message t)
+  abbrev unkeyed : List ℕ
+  unkeyed = startWord (length message) t ∷ 0 ∷ 0 ∷ 0 ∷ 0 ∷ []
+
+  -- the same words: the start word and zeros, with the key and the message xored in
+  xored-in : xorFrom 24 message (xorFrom 8 key unkeyed) ≡ wordsOf 5 (start key message t)
   unfolding start zerosTo startValue
-  started =
+  xored-in =
       sym (words-xored 5 (start key message t) all-bytes length-start
       ∙ xorFrom-append parts (replicate (40 - length parts) 0) 0 (replicate 5 0)
       ∙ xorFrom-zeros (40 - length parts) (0 + length parts) (xorFrom 0 parts (replicate 5 0))
       ∙ xorFrom-append (startValue (length message) t) (key ++ message) 0 (replicate 5 0)
       ∙ ap (xorFrom 8 (key ++ message)) (value-word (length message) t few short)
-      ∙ xorFrom-append key message 8 (startWord (length message) t ∷ 0 ∷ 0 ∷ 0 ∷ 0 ∷ [])
+      ∙ xorFrom-append key message 8 unkeyed
       ∙ rw n)
+
+  word-at : (j : ℕ) → j < 5 → getD (xorFrom 24 message (xorFrom 8 key unkeyed)) j 0 ≡ bitXor (bitXor (getD unkeyed j 0) (window 8 key j)) (window 24 message j)
+  word-at j l =
+      word-xorFrom message (xorFrom 8 key unkeyed) 24 j (rw (length-xorFrom key unkeyed 8) l)
+      ∙ ap (λ (x : ℕ). bitXor x (window 24 message j)) (word-xorFrom key unkeyed 8 j l)
+
+  -- and made by the code: key and message have two words each
+  pub started : startWord (length message) t ∷ window 0 key 0 ∷ window 0 key 1 ∷ window 0 message 0 ∷ window 0 message 1 ∷ [] ≡ wordsOf 5 (start key message t)
+  started =
+      let five : length (xorFrom 24 message (xorFrom 8 key unkeyed)) ≡ 5 = length-xorFrom message (xorFrom 8 key unkeyed) 24 ∙ length-xorFrom key unkeyed 8 in
+      sym (written-out 5 (xorFrom 24 message (xorFrom 8 key unkeyed)) five
+      ∙ cons-same (word-at 0 (omega arith) ∙ rw (window-past key 8 0 (omega arith), window-past message 24 0 (omega arith)) (xor-zero-r (bitXor (startWord (length message) t) 0) ∙ xor-zero-r (startWord (length message) t)))
+      (cons-same (word-at 1 (omega arith) ∙ rw (window-moved key 1 0 0, window-past message 24 1 (omega arith), xor-zero-r))
+      (cons-same (word-at 2 (omega arith) ∙ rw (window-moved key 1 0 1, window-past message 24 2 (omega arith), xor-zero-r))
+      (cons-same (word-at 3 (omega arith) ∙ rw (window-before key 8 3 (omega arith), window-moved message 3 0 0))
+      (cons-same (word-at 4 (omega arith) ∙ rw (window-before key 8 4 (omega arith), window-moved message 3 0 1)) refl)))))
+      ∙ xored-in
 
 -- ---- the output
 
@@ -99,3 +121,14 @@ last-xored s key t five bytes n short =
         ∙ xored-from key 24 (40 - t + i) s (omega arith) bytes
         ∙ rw (le-leb 24 (40 - t + i) (omega arith), place, ← getD-drop (length key - t) key i 0, place′, ← bytesFrom-at 40 0 (length (bytesFrom 0 40 s) - t + i) s (omega (arith, length-bytesFrom 40 0 s)), ← getD-drop (length (bytesFrom 0 40 s) - t) (bytesFrom 0 40 s) i 0)
         (sym (xorBytes-at a b i (la ∙ sym lb)))
+
+-- the key's two words, xored into the last two of a state
+pub masked : (s key : List ℕ) → length s ≡ 5 → length key ≡ 16
+    → getD s 0 0 ∷ getD s 1 0 ∷ getD s 2 0 ∷ bitXor (getD s 3 0) (window 0 key 0) ∷ bitXor (getD s 4 0) (window 0 key 1) ∷ [] ≡ xorFrom 24 key s
+masked s key five n =
+    sym (written-out 5 (xorFrom 24 key s) (length-xorFrom key s 24 ∙ five)
+    ∙ cons-same (word-xorFrom key s 24 0 (omega arith) ∙ rw (window-past key 24 0 (omega arith), xor-zero-r))
+    (cons-same (word-xorFrom key s 24 1 (omega arith) ∙ rw (window-past key 24 1 (omega arith), xor-zero-r))
+    (cons-same (word-xorFrom key s 24 2 (omega arith) ∙ rw (window-past key 24 2 (omega arith), xor-zero-r))
+    (cons-same (word-xorFrom key s 24 3 (omega arith) ∙ rw (window-moved key 3 0 0))
+    (cons-same (word-xorFrom key s 24 4 (omega arith) ∙ rw (window-moved key 3 0 1)) refl)))))

@@ -11,13 +11,6 @@ pub const LONGEST_MESSAGE: usize = 16;
 
 pub const LONGEST_OUTPUT: usize = 16;
 
-// The bytes of the state at which the key and the message begin. The last bytes of the state, with which the key is xored again, are as many as the key's.
-const KEY_PLACE: u32 = 8;
-
-const MESSAGE_PLACE: u32 = 24;
-
-const OUTPUT_PLACE: u32 = 24;
-
 // The start word but for both lengths: the key's bits and the rounds.
 const START: u64 = 0x8000_4c00_0000_0000;
 
@@ -29,16 +22,18 @@ fn start_word(m: usize, t: usize) -> u64
     START + (m as u64) * 0x0008_0000_0000_0000 + (t as u64) * 0x0000_0008_0000_0000
 }
 
-// The output, as long as the buffer.
+// The output, as long as the buffer: the end of the state, into whose last two words the key is xored once more.
 fn output(key: &[u8], message: &[u8], out: &mut [u8])
     requires { ⌜ (length (now key) ≡ 16) × (length (now message) ≤ 16) × (length (now out) ≤ 16) ⌝ }
     ensures { λ _. ⌜ now (out .exit) ≡ prfShort (now (key .entry)) (now (message .entry)) (length (now (out .entry))) ⌝ }
 {
-    let unkeyed = [start_word(message.len(), out.len()), 0, 0, 0, 0];
-    let keyed = state::xor_bytes(unkeyed, KEY_PLACE, key);
-    let start = state::xor_bytes(keyed, MESSAGE_PLACE, message);
-    let ended = permutation::permute(start);
-    let masked = state::xor_bytes(ended, OUTPUT_PLACE, key);
+    let k0 = state::word_of_bytes(key, 0);
+    let k1 = state::word_of_bytes(key, 1);
+    let m0 = state::word_of_bytes(message, 0);
+    let m1 = state::word_of_bytes(message, 1);
+    let start = [start_word(message.len(), out.len()), k0, k1, m0, m1];
+    let s = permutation::permute(start);
+    let masked = [s[0], s[1], s[2], s[3] ^ k0, s[4] ^ k1];
     state::copy_bytes(masked, (40 - out.len()) as u32, out);
 }
 

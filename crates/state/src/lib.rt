@@ -119,7 +119,7 @@ fn put_word(out: &mut [u8], i: usize, x: u64)
 
 // The number that bytes make in word j, if the first of them stands at byte k: at once where all eight bytes of the word are there.
 fn window(k: usize, bytes: &[u8], j: usize) -> u64
-    requires { ⌜ (k < 2 ^ 32) × (j < 5) ⌝ }
+    requires { ⌜ (k < 2 ^ 32) × (j < 2 ^ 60) ⌝ }
     ensures { λ r. ⌜ r ≡ spec.window k (now (bytes .entry)) j ⌝ }
 {
     let start = 8 * j;
@@ -141,7 +141,7 @@ fn window(k: usize, bytes: &[u8], j: usize) -> u64
 
 // The same for a word that begins at byte start and has some of the bytes, one byte at a time.
 fn window_part(k: usize, bytes: &[u8], start: usize) -> u64
-    requires { ⌜ (k < 2 ^ 32) × (start < 40) × (start % 8 ≡ 0) × (k < start + 8) × (start < k + length (now bytes)) ⌝ }
+    requires { ⌜ (k < 2 ^ 32) × (start < 2 ^ 63) × (start % 8 ≡ 0) × (k < start + 8) × (start < k + length (now bytes)) ⌝ }
     ensures { λ r. ⌜ r ≡ spec.window k (now (bytes .entry)) (start / 8) ⌝ }
 {
     let end = shorter(start + 8 - k, bytes.len());
@@ -152,6 +152,16 @@ fn window_part(k: usize, bytes: &[u8], start: usize) -> u64
         i += 1;
     }
     x
+}
+
+// Word j of the words that bytes make, zeros standing after the last byte.
+pub fn word_of_bytes(bytes: &[u8], j: usize) -> u64
+    ensures { λ r. ⌜ r ≡ spec.window 0 (now (bytes .entry)) j ⌝ }
+{
+    if bytes.len() / 8 < j {
+        return 0;
+    }
+    window(0, bytes, j)
 }
 
 // Bytes xored in from a place on, word by word.

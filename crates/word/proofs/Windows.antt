@@ -3,7 +3,7 @@
 use mathlib.Core.Bool.{cond}
 use mathlib.Core.Path.{_≡_, refl, sym, ap, ap₂, _∙_}
 use mathlib.Core.List.{List, [], _∷_, _++_}
-use Prim.Native.Nat.{ℕ, zero, suc, _+_, _-_, _*_, _/_, _≤_, _<_}
+use Prim.Native.Nat.{ℕ, zero, suc, _+_, _-_, _*_, _/_, _%_, _≤_, _<_}
 use native.Mathlib.Decide.{decLt, ℕ-discrete}
 use native.Mathlib.Nat.{add-zero, add-suc, suc-add, sub-zero}
 use native.Mathlib.Omega.{arith}
@@ -79,6 +79,20 @@ window-next bs k i j h e =
     let one : i + 1 ≡ suc i = omega arith in
     rw (drop-cons bs i 0 h, next, one, eq-eqb ((k + i) / 8) j e)
 
+-- bytes that stand i words further on make the same numbers i words further on
+pub window-moved : (bs : List ℕ) (i k j : ℕ) → window (8 * i + k) bs (i + j) ≡ window k bs j
+unfolding window weight
+window-moved [] i k j = refl
+window-moved (b ∷ bs) i k j =
+    let word : (8 * i + k) / 8 ≡ i + k / 8 = omega arith in
+    let place : (8 * i + k) % 8 ≡ k % 8 = omega arith in
+    let rest : window (suc (8 * i + k)) bs (i + j) ≡ window (suc k) bs j = ap (λ (n : ℕ). window n bs (i + j)) (sym (add-suc (8 * i) k)) ∙ window-moved bs i (suc k) j in
+    rw (word, place, same-word (ℕ-discrete (k / 8) j), rest)
+  where
+    same-word : Dec (k / 8 ≡ j) → eqb (i + k / 8) (i + j) ≡ eqb (k / 8) j
+    same-word (yes e) = eq-eqb (i + k / 8) (i + j) (omega arith) ∙ sym (eq-eqb (k / 8) j e)
+    same-word (no n) = ne-eqb (i + k / 8) (i + j) (λ e. n (omega arith)) ∙ sym (ne-eqb (k / 8) j n)
+
 -- all eight bytes of word j are there
 pub window-all : (bs : List ℕ) (k j : ℕ) → Bytes bs → k ≤ 8 * j → 8 * j + 8 ≤ k + length bs → window k bs j ≡ fromBytes (take 8 (drop (8 * j - k) bs))
 window-all bs k j bytes before after =
@@ -100,7 +114,7 @@ window-first bs n j bytes h l =
 
 -- ---- words
 
-length-xorFrom : (bs ws : List ℕ) (k : ℕ) → length (xorFrom k bs ws) ≡ length ws
+pub length-xorFrom : (bs ws : List ℕ) (k : ℕ) → length (xorFrom k bs ws) ≡ length ws
 unfolding xorFrom xorAt xorWord
 length-xorFrom [] ws k = refl
 length-xorFrom (b ∷ bs) ws k = length-xorFrom bs (xorAt k b ws) (suc k) ∙ length-set ws (k / 8) _

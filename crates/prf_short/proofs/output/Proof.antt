@@ -1,34 +1,53 @@
--- `prf_short::output` meets its contract: the words before the permutation are the start's, and the key xored in after it is the output's mask.
+-- `prf_short::output` meets its contract: the words before the permutation are the start's, and the key's words xored in after it are the output's mask.
 -- Assumes nothing.
 use mathlib.Core.Path.{_≡_, ap, _∙_}
 use mathlib.Core.List.{List, [], _∷_}
 use Prim.Native.Nat.{ℕ, _-_}
 use native.Mathlib.Omega.{arith}
-use lib.ListN.{length}
+use lib.Bits.{bitXor}
+use lib.ListN.{length, getD}
 use borrow.Author.Needs.{needs}
-use Rattle.word.specs.Bytes.{bytesFrom, xorFrom, wordsOf}
+use Rattle.word.specs.Bytes.{bytesFrom, window, wordsOf}
 use Rattle.word.proofs.Bytes.{Bytes}
 use Rattle.permutation.specs.Permutation.{run}
 use Rattle.permutation.proofs.State.{run-state}
 use Rattle.prf_short.specs.Short.{startWord, start, ended, prfShort}
-use Rattle.prf_short.proofs.Short.{started, last-xored}
+use Rattle.prf_short.proofs.Short.{started, last-xored, masked}
 use Rattle.prf_short.proofs.output.Statement.{statement}
 use Rattle.prf_short.proofs.output.Tie as tie
+
+word-of-bytes-requires : tie.Need-word-of-bytes-requires
+word-of-bytes-requires c κs = search needs
+
+word-of-bytes-requires-2 : tie.Need-word-of-bytes-requires-2
+word-of-bytes-requires-2 c κs = search needs
+
+word-of-bytes-requires-3 : tie.Need-word-of-bytes-requires-3
+word-of-bytes-requires-3 c κs = search needs
+
+word-of-bytes-requires-4 : tie.Need-word-of-bytes-requires-4
+word-of-bytes-requires-4 c κs = search needs
 
 start-word-requires : tie.Need-start-word-requires
 start-word-requires c κs = search needs
 
-xor-bytes-requires : tie.Need-xor-bytes-requires
-xor-bytes-requires c κs = search needs
-
-xor-bytes-requires-2 : tie.Need-xor-bytes-requires-2
-xor-bytes-requires-2 c κs = search needs
-
 permute-requires : tie.Need-permute-requires
 permute-requires c κs = search needs
 
-xor-bytes-requires-3 : tie.Need-xor-bytes-requires-3
-xor-bytes-requires-3 c κs = search needs
+array-read-t11 : tie.Need-array-read-t11
+array-read-t11 c = search needs
+
+array-read-t19 : tie.Need-array-read-t19
+array-read-t19 c = search needs
+
+array-read-t22 : tie.Need-array-read-t22
+array-read-t22 c = search needs
+
+array-read-t25 : tie.Need-array-read-t25
+array-read-t25 c = search needs
+
+array-read-t29 : tie.Need-array-read-t29
+array-read-t29 c = search needs
 
 sub-copy-bytes : tie.Need-sub-copy-bytes
 sub-copy-bytes c = search needs
@@ -45,9 +64,7 @@ same-length c = search needs
 returns : tie.Need-returns
 unfolding prfShort ended
 returns c =
-    let b = c .before .before .before .before .before .before .before .before in
-    let s = c .before .before .before .before .before in
-    let begun = b .before in
+    let begun = c .before .before .before .before .before .before .before .before .before .before in
     let a = begun .before .before .before .args in
     let key : List ℕ = a .key .now in
     let message : List ℕ = a .message .now in
@@ -55,26 +72,36 @@ returns c =
     let pre = begun .before .before .before .pre in
     let bytes : Bytes key = λ i. omega (arith, begun .before .before .shared-slice-known .given i) in
     let bytes′ : Bytes message = λ i. omega (arith, begun .before .shared-slice-known2 .given i) in
-    let first : b .start-word .result ≡ startWord (length message) t = b .start-word .ensures in
-    let keyed : c .before .before .before .before .before .before .before .xor-bytes .result ≡ xorFrom 8 key (b .start-word .result ∷ 0 ∷ 0 ∷ 0 ∷ 0 ∷ []) = c .before .before .before .before .before .before .before .xor-bytes .ensures in
-    let fed : c .before .before .before .before .before .before .xor-bytes2 .result ≡ xorFrom 24 message (c .before .before .before .before .before .before .before .xor-bytes .result) = c .before .before .before .before .before .before .xor-bytes2 .ensures in
-    let permuted : s .permute .result ≡ run (c .before .before .before .before .before .before .xor-bytes2 .result) = s .permute .ensures in
-    let masked : c .before .before .before .before .xor-bytes3 .result ≡ xorFrom 24 key (s .permute .result) = c .before .before .before .before .xor-bytes3 .ensures in
-    let read : c .before .before .copy-bytes .last .1 .1 .0 ≡ bytesFrom (40 - t) t (c .before .before .before .before .xor-bytes3 .result) = c .before .before .copy-bytes .ensures in
-    let ended-is : s .permute .result ≡ run (wordsOf 5 (start key message t)) =
-    permuted ∙ ap run (fed ∙ ap (xorFrom 24 message) (keyed ∙ ap (λ (w : ℕ). xorFrom 8 key (w ∷ 0 ∷ 0 ∷ 0 ∷ 0 ∷ [])) first) ∙ started key message t bytes bytes′ (pre .0) (pre .1) (pre .2)) in
-    read ∙ ap (bytesFrom (40 - t) t) (masked ∙ ap (xorFrom 24 key) ended-is)
-    ∙ last-xored (run (wordsOf 5 (start key message t))) key t (run-state (wordsOf 5 (start key message t)) .five) bytes (pre .0) (pre .2)
+    let s : List ℕ = run (wordsOf 5 (start key message t)) in
+    let p : List ℕ = c .before .before .before .before .permute .result in
+    let x0 : ℕ = c .before .before .before .before .before .before .before .before .before .word-of-bytes .result in
+    let x1 : ℕ = c .before .before .before .before .before .before .before .before .word-of-bytes2 .result in
+    let k0 : x0 ≡ window 0 key 0 = c .before .before .before .before .before .before .before .before .before .word-of-bytes .ensures in
+    let k1 : x1 ≡ window 0 key 1 = c .before .before .before .before .before .before .before .before .word-of-bytes2 .ensures in
+    let m0 : c .before .before .before .before .before .before .before .word-of-bytes3 .result ≡ window 0 message 0 = c .before .before .before .before .before .before .before .word-of-bytes3 .ensures in
+    let m1 : c .before .before .before .before .before .before .word-of-bytes4 .result ≡ window 0 message 1 = c .before .before .before .before .before .before .word-of-bytes4 .ensures in
+    let first : c .before .before .before .before .before .start-word .result ≡ startWord (length message) t = c .before .before .before .before .before .start-word .ensures in
+    let permuted : p ≡ s = c .before .before .before .before .permute .ensures ∙ ap run (rw (first, k0, k1, m0, m1) (started key message t bytes bytes′ (pre .0) (pre .1) (pre .2))) in
+    let copied : c .before .before .copy-bytes .last .1 .1 .0 ≡ bytesFrom (40 - t) t (getD p 0 0 ∷ getD p 1 0 ∷ getD p 2 0 ∷ bitXor (getD p 3 0) x0 ∷ bitXor (getD p 4 0) x1 ∷ []) = c .before .before .copy-bytes .ensures in
+    let read : c .before .before .copy-bytes .last .1 .1 .0 ≡ bytesFrom (40 - t) t (getD s 0 0 ∷ getD s 1 0 ∷ getD s 2 0 ∷ bitXor (getD s 3 0) (window 0 key 0) ∷ bitXor (getD s 4 0) (window 0 key 1) ∷ []) = copied ∙ rw (permuted, k0, k1) in
+    read ∙ ap (bytesFrom (40 - t) t) (masked s key (run-state (wordsOf 5 (start key message t)) .five) (pre .0))
+    ∙ last-xored s key t (run-state (wordsOf 5 (start key message t)) .five) bytes (pre .0) (pre .2)
 
 pub output-spec : {M : Type 1} → statement M
 output-spec =
     tie.close
     (tie.spec
+    word-of-bytes-requires
+    word-of-bytes-requires-2
+    word-of-bytes-requires-3
+    word-of-bytes-requires-4
     start-word-requires
-    xor-bytes-requires
-    xor-bytes-requires-2
     permute-requires
-    xor-bytes-requires-3
+    array-read-t11
+    array-read-t19
+    array-read-t22
+    array-read-t25
+    array-read-t29
     sub-copy-bytes
     cast-copy-bytes
     copy-bytes-requires
