@@ -11,16 +11,22 @@
  *     6    refused: the output of the short function is not to be of 1 to 16 bytes, or its buffer has another length
  * Checks are made in the order that stands at each function, and the first that fails answers. A refused call writes nothing.
  *
- * All of that is proved, for every key, buffer and number: see crates/sign. The caller's part is:
+ * What a call answers and writes is proved, for all keys, buffers and numbers (crates/sign/src/lib.rt). The caller's part is:
  *     - Each pointer is valid for as many bytes as the length after it says, and is not null, not even for a length of 0.
  *     - The buffer that a call writes overlaps no other buffer of the call.
  * Nothing is kept between calls and nothing is allocated, so that any number of threads may call at once.
- * How long a call takes depends on the lengths and on what it answers, and on no byte of a key, a message or a tag. */
+ * The code branches on lengths and on the verdict, and on no byte of a key, a message, a body or a tag; that is so by its text, and is not proved.
+ * The stack may keep copies of a key's bytes after a call. */
 #ifndef SIGN_H
 #define SIGN_H
 
 #include <stddef.h>
 #include <stdint.h>
+
+/* Lengths are of type size_t, and of 64 bits. */
+#if SIZE_MAX != UINT64_MAX
+#error "libsign.a is for x86-64, where size_t has 64 bits"
+#endif
 
 #ifdef __cplusplus
 extern "C" {

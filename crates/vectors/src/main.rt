@@ -100,6 +100,14 @@ fn digits(mode: Mode, bytes: &[u8], n: usize, out: &mut [u8], text: &mut [u8])
     hex(&*out, text);
 }
 
+// The end of a line, or all of it: a length, a space, and digits.
+fn print_line(n: usize, text: &[u8]) {
+    io::print_decimal(1, n as u64);
+    io::write_all(1, b" ");
+    io::write_all(1, text);
+    io::write_all(1, b"\n");
+}
+
 // The lines of a mode: a message's length, a space, and the digits of the output.
 fn print_mode(mode: Mode, bytes: &[u8], out: &mut [u8], text: &mut [u8])
     requires { ⌜ (1024 ≤ length (now bytes)) × (2 * length (now out) ≡ length (now text)) ⌝ }
@@ -108,10 +116,7 @@ fn print_mode(mode: Mode, bytes: &[u8], out: &mut [u8], text: &mut [u8])
     while i < 139 {
         let n = nth_length(i);
         digits(mode, bytes, n, &mut *out, &mut *text);
-        io::print_decimal(1, n as u64);
-        io::write_all(1, b" ");
-        io::write_all(1, &*text);
-        io::write_all(1, b"\n");
+        print_line(n, &*text);
         i += 1;
     }
 }
@@ -133,10 +138,7 @@ fn print_short_line(bytes: &[u8], m: usize, out: &mut [u8], text: &mut [u8])
     short_digits(bytes, m, &mut *out, &mut *text);
     io::print_decimal(1, m as u64);
     io::write_all(1, b" ");
-    io::print_decimal(1, out.len() as u64);
-    io::write_all(1, b" ");
-    io::write_all(1, &*text);
-    io::write_all(1, b"\n");
+    print_line(out.len(), &*text);
 }
 
 // The lines of the short function: for each message of 0 to 16 bytes an output of each length, 1 to 16.

@@ -22,6 +22,43 @@ extern "C" {
         tag: *const u8,
         tag_length: usize,
     ) -> u32;
+    fn bench_seal_runs(
+        key: *const u8,
+        key_length: usize,
+        frame: *mut u8,
+        frame_length: usize,
+        body: usize,
+    ) -> u64;
+    fn bench_verify_runs(
+        key: *const u8,
+        key_length: usize,
+        frame: *const u8,
+        frame_length: usize,
+        body: usize,
+    ) -> u64;
+    fn ascon_prf_short(
+        key: *const u8,
+        key_length: usize,
+        message: *const u8,
+        message_length: usize,
+        out: *mut u8,
+        out_length: usize,
+        length: usize,
+    ) -> u32;
+    fn ascon_seal_frame(
+        key: *const u8,
+        key_length: usize,
+        frame: *mut u8,
+        frame_length: usize,
+        body: usize,
+    ) -> u32;
+    fn ascon_verify_frame(
+        key: *const u8,
+        key_length: usize,
+        frame: *const u8,
+        frame_length: usize,
+        body: usize,
+    ) -> u32;
 }
 
 /// Permutes a row of five words and gives 0; gives the refusal for any other row.
@@ -74,6 +111,62 @@ pub fn tag(key: &[u8], message: &[u8], tag: &[u8]) -> u32 {
             tag.len(),
         )
     }
+}
+
+/// The short function, an output of so many bytes for a message under a key: 0, or the refusal.
+pub fn prf_short(key: &[u8], message: &[u8], out: &mut [u8], length: usize) -> u32 {
+    // SAFETY: each pointer and the length after it are those of one slice, lent for the call alone; out is lent to it alone.
+    unsafe {
+        ascon_prf_short(
+            key.as_ptr(),
+            key.len(),
+            message.as_ptr(),
+            message.len(),
+            out.as_mut_ptr(),
+            out.len(),
+            length,
+        )
+    }
+}
+
+/// Seals a frame: 0, or the refusal.
+pub fn seal(key: &[u8], frame: &mut [u8], body: usize) -> u32 {
+    // SAFETY: as above; the frame is lent to it alone.
+    unsafe {
+        ascon_seal_frame(
+            key.as_ptr(),
+            key.len(),
+            frame.as_mut_ptr(),
+            frame.len(),
+            body,
+        )
+    }
+}
+
+/// Judges a frame: 0 where it passes, 255 where it fails, or the refusal.
+pub fn verify(key: &[u8], frame: &[u8], body: usize) -> u32 {
+    // SAFETY: as above.
+    unsafe { ascon_verify_frame(key.as_ptr(), key.len(), frame.as_ptr(), frame.len(), body) }
+}
+
+/// Seals a frame: the runs that are reported, 0 where it is refused.
+pub fn seal_runs(key: &[u8], frame: &mut [u8], body: usize) -> u64 {
+    // SAFETY: as above; the frame is lent to it alone.
+    unsafe {
+        bench_seal_runs(
+            key.as_ptr(),
+            key.len(),
+            frame.as_mut_ptr(),
+            frame.len(),
+            body,
+        )
+    }
+}
+
+/// Judges a frame: the runs that are reported, 0 where it is refused.
+pub fn verify_runs(key: &[u8], frame: &[u8], body: usize) -> u64 {
+    // SAFETY: as above.
+    unsafe { bench_verify_runs(key.as_ptr(), key.len(), frame.as_ptr(), frame.len(), body) }
 }
 
 /// A generator of test numbers (splitmix64): the same numbers in every run.

@@ -95,12 +95,7 @@ pub fn sponge(
 ) -> (Vec<u8>, u64) {
     let mut runs = 0;
     let mut run = |state: &mut [u8; 40]| {
-        let mut words: [u64; 5] =
-            std::array::from_fn(|i| u64::from_be_bytes(state[8 * i..][..8].try_into().unwrap()));
-        permute(&mut words);
-        for (bytes, word) in state.chunks_mut(8).zip(words) {
-            bytes.copy_from_slice(&word.to_be_bytes());
-        }
+        permute_bytes(&permute, state);
         runs += 1;
     };
     let mut state = [0; 40];
@@ -131,6 +126,40 @@ pub fn sponge(
     (output, runs)
 }
 
+/// The state as forty bytes, permuted.
+fn permute_bytes(permute: impl Fn(&mut [u64; 5]), state: &mut [u8; 40]) {
+    let mut words: [u64; 5] =
+        std::array::from_fn(|i| u64::from_be_bytes(state[8 * i..][..8].try_into().unwrap()));
+    permute(&mut words);
+    for (bytes, word) in state.chunks_mut(8).zip(words) {
+        bytes.copy_from_slice(&word.to_be_bytes());
+    }
+}
+
+/// The short function, source document 003, algorithm 3: an output of 1 to 16 bytes for a message of at most 16, over any permutation of five words.
+pub fn prf_short(
+    permute: impl Fn(&mut [u64; 5]),
+    key: &[u8; 16],
+    message: &[u8],
+    length: usize,
+) -> Vec<u8> {
+    let mut state = [0; 40];
+    state[0] = 128;
+    state[1] = 8 * message.len() as u8;
+    state[2] = 0x40 ^ 12;
+    state[3] = 8 * length as u8;
+    state[8..24].copy_from_slice(key);
+    state[24..24 + message.len()].copy_from_slice(message);
+    permute_bytes(permute, &mut state);
+    let ends = state[40 - length..].iter().zip(&key[16 - length..]);
+    ends.map(|(s, k)| s ^ k).collect()
+}
+
+/// The MAC of a message: the tag of a frame whose body it is.
+pub fn mac(key: &[u8; 16], message: &[u8]) -> Vec<u8> {
+    sponge(permute, &MAC, key, message, 16).0
+}
+
 /// An outside vector: a mode, the length of a message whose bytes count up from 0, and the output.
 pub struct Vector {
     pub mode: &'static Mode,
@@ -138,29 +167,64 @@ pub struct Vector {
     pub output: Vec<u8>,
 }
 
-/// The outside vectors, which the program `vectors` is held to as well: a line with a function's name, then lines with a message's length and an output.
-pub fn vectors() -> Vec<Vector> {
-    let mut mode = None;
-    let mut vectors = Vec::new();
+/// An outside vector of the short function: the lengths of a message whose bytes count up from 0 and of an output, and the output.
+pub struct ShortVector {
+    pub message: usize,
+    pub length: usize,
+    pub output: Vec<u8>,
+}
+
+/// The lines of the outside vectors, which the program `vectors` is held to as well: a function's name stands before its lines.
+fn lines() -> Vec<(&'static str, Vec<&'static str>)> {
+    let mut lines = Vec::new();
+    let mut name = "";
     for line in include_str!("../../../crates/vectors/stdout").lines() {
-        match line.split_once(' ') {
-            None => {
-                mode = Some(match line {
-                    "hash" => &HASH,
-                    "xof" => &XOF,
-                    "prf" => &PRF,
-                    "mac" => &MAC,
-                    other => panic!("no function has the name {other}"),
-                })
-            }
-            Some((length, output)) => vectors.push(Vector {
-                mode: mode.expect("a name before the first vector"),
-                length: length.parse().expect("a length"),
-                output: unhex(output),
-            }),
+        match line.contains(' ') {
+            false => name = line,
+            true => lines.push((name, line.split(' ').collect())),
         }
     }
-    assert_eq!(vectors.len(), 4 * 139, "lines of crates/vectors/stdout");
+    assert_eq!(
+        lines.len(),
+        4 * 139 + 17 * 16,
+        "lines of crates/vectors/stdout"
+    );
+    lines
+}
+
+/// The outside vectors of the modes: the message's length, and the output.
+pub fn vectors() -> Vec<Vector> {
+    let mode = |name| match name {
+        "hash" => Some(&HASH),
+        "xof" => Some(&XOF),
+        "prf" => Some(&PRF),
+        "mac" => Some(&MAC),
+        "prf_short" => None,
+        other => panic!("no function has the name {other}"),
+    };
+    let vector = |(name, fields): (_, Vec<&str>)| {
+        Some(Vector {
+            mode: mode(name)?,
+            length: fields[0].parse().expect("a length"),
+            output: unhex(fields[1]),
+        })
+    };
+    let vectors: Vec<Vector> = lines().into_iter().filter_map(vector).collect();
+    assert_eq!(vectors.len(), 4 * 139);
+    vectors
+}
+
+/// The outside vectors of the short function: both lengths, and the output.
+pub fn short_vectors() -> Vec<ShortVector> {
+    let short = lines().into_iter().filter(|(name, _)| *name == "prf_short");
+    let vectors: Vec<ShortVector> = short
+        .map(|(_, fields)| ShortVector {
+            message: fields[0].parse().expect("a length"),
+            length: fields[1].parse().expect("a length"),
+            output: unhex(fields[2]),
+        })
+        .collect();
+    assert_eq!(vectors.len(), 17 * 16);
     vectors
 }
 
@@ -208,6 +272,19 @@ mod tests {
     #[test]
     fn the_vectors() {
         assert_vectors(permute);
+    }
+
+    #[test]
+    fn the_vectors_of_the_short_function() {
+        for vector in short_vectors() {
+            assert_eq!(
+                prf_short(permute, &KEY, &counting(vector.message), vector.length),
+                vector.output,
+                "message of {}, output of {}",
+                vector.message,
+                vector.length
+            );
+        }
     }
 
     /// What the authors print of their known-answer files.

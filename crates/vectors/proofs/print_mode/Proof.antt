@@ -10,10 +10,10 @@ use Rattle.vectors.proofs.print_mode.Statement.{statement}
 use Rattle.vectors.proofs.print_mode.Tie as tie
 
 abbrev Inv-loop : tie.InvT-loop
-Inv-loop mode bytes out₀ text₀ i₀ t7 t8 out text i = (i ≤ 139) × (length out ≡ length out₀) × (length text ≡ length text₀)
+Inv-loop mode bytes out₀ text₀ i₀ out text i = (i ≤ 139) × (length out ≡ length out₀) × (length text ≡ length text₀)
 
 abbrev μ-loop : tie.MeasureT-loop
-μ-loop mode bytes out₀ text₀ i₀ t7 t8 out text i = 139 - i
+μ-loop mode bytes out₀ text₀ i₀ out text i = 139 - i
 
 loop-holds : tie.Need-loop-holds Inv-loop μ-loop
 loop-holds c = (omega arith, refl, refl)
@@ -24,23 +24,8 @@ nth-length-requires c κs = search needs
 digits-requires : tie.Need-digits-requires Inv-loop μ-loop
 digits-requires c κs = (omega arith, omega (arith, c .before .before .nth-length .ensures, length-most (c .before .before .before .before .loop .i)), omega (arith, c .before .before .before .before .loop .inv .1, c .before .before .before .before .loop .inv .2))
 
-print-decimal-requires : tie.Need-print-decimal-requires Inv-loop μ-loop
-print-decimal-requires c κs = search needs
-
-slice-aggregate-write-all : tie.Need-slice-aggregate-write-all Inv-loop μ-loop
-slice-aggregate-write-all c = search needs
-
-write-all-requires : tie.Need-write-all-requires Inv-loop μ-loop
-write-all-requires c κs = search needs
-
-write-all-requires-2 : tie.Need-write-all-requires-2 Inv-loop μ-loop
-write-all-requires-2 c κs = search needs
-
-slice-aggregate-write-all-2 : tie.Need-slice-aggregate-write-all-2 Inv-loop μ-loop
-slice-aggregate-write-all-2 c = search needs
-
-write-all-requires-3 : tie.Need-write-all-requires-3 Inv-loop μ-loop
-write-all-requires-3 c κs = search needs
+print-line-requires : tie.Need-print-line-requires Inv-loop μ-loop
+print-line-requires c κs = search needs
 
 add-i : tie.Need-add-i Inv-loop μ-loop
 add-i c = search needs
@@ -69,12 +54,7 @@ print-mode-spec =
     loop-holds
     nth-length-requires
     digits-requires
-    print-decimal-requires
-    slice-aggregate-write-all
-    write-all-requires
-    write-all-requires-2
-    slice-aggregate-write-all-2
-    write-all-requires-3
+    print-line-requires
     add-i
     loop-less
     loop-again

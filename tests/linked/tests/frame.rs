@@ -1,0 +1,167 @@
+//! The linked sealing and judging against the outside vectors and the reference: tags, verdicts, run counts, refusals, and every byte of the frame.
+use linked::{seal, seal_runs, verify, verify_runs, Numbers};
+use reference::{counting, mac, vectors, KEY};
+
+const PASSES: u32 = 0;
+const FAILS: u32 = 255;
+
+/// Holds both calls to a refusal, and that each byte of the frame is as it was.
+fn assert_refused(number: u32, key: &[u8], frame: &[u8], body: usize) {
+    let given = format!(
+        "key of {}, frame of {}, body of {body}",
+        key.len(),
+        frame.len()
+    );
+    let mut after = frame.to_vec();
+    assert_eq!(seal(key, &mut after, body), number, "{given}");
+    assert_eq!(seal_runs(key, &mut after, body), 0, "{given}");
+    assert_eq!(after, frame, "{given}");
+    assert_eq!(verify(key, frame, body), number, "{given}");
+    assert_eq!(verify_runs(key, frame, body), 0, "{given}");
+}
+
+#[test]
+fn the_vectors() {
+    let mut tried = 0;
+    for vector in vectors().iter().filter(|v| v.mode.number == 2) {
+        let mut frame = counting(vector.length);
+        frame.extend([0; 16]);
+        assert_eq!(seal(&KEY, &mut frame, vector.length), 0);
+        assert_eq!(frame[..vector.length], counting(vector.length));
+        assert_eq!(frame[vector.length..], vector.output);
+        assert_eq!(verify(&KEY, &frame, vector.length), PASSES);
+        tried += 1;
+    }
+    assert_eq!(tried, 139);
+}
+
+/// Bodies of every length, frames that begin at every place of a word, and with no byte, a few or many after the tag.
+#[test]
+fn every_body_length_at_every_offset() {
+    let mut numbers = Numbers(21);
+    let key: [u8; 16] = numbers.bytes(16).try_into().unwrap();
+    for body in 0..=300 {
+        let content = numbers.bytes(body);
+        let tag = mac(&key, &content);
+        for lead in 0..=8 {
+            for trail in [0, 1, 7, 8, 16, 33] {
+                let before = numbers.bytes(lead + body + 16 + trail);
+                let mut expected = before.clone();
+                expected[lead..lead + body].copy_from_slice(&content);
+                let mut buffer = expected.clone();
+                expected[lead + body..lead + body + 16].copy_from_slice(&tag);
+                assert_eq!(seal(&key, &mut buffer[lead..], body), 0);
+                assert_eq!(
+                    buffer, expected,
+                    "body of {body}, {lead} before, {trail} after"
+                );
+                assert_eq!(verify(&key, &buffer[lead..], body), PASSES);
+            }
+        }
+    }
+}
+
+#[test]
+fn the_runs_reported() {
+    for body in 0..=300 {
+        let mut frame = counting(body + 20);
+        let runs = (body / 32 + 2) as u64;
+        assert_eq!(seal_runs(&KEY, &mut frame, body), runs, "body of {body}");
+        assert_eq!(verify(&KEY, &frame, body), PASSES);
+        assert_eq!(verify_runs(&KEY, &frame, body), runs, "body of {body}");
+        frame[body] ^= 1;
+        assert_eq!(verify(&KEY, &frame, body), FAILS);
+        assert_eq!(verify_runs(&KEY, &frame, body), runs, "body of {body}");
+    }
+}
+
+/// The hub would refuse to be fed so much; a frame may be of any length.
+#[test]
+fn a_body_longer_than_the_hub_is_fed() {
+    let body = 16_777_217;
+    let mut frame: Vec<u8> = (0..body + 16).map(|i| (i % 251) as u8).collect();
+    assert_eq!(seal_runs(&KEY, &mut frame, body), 524_290);
+    assert_eq!(verify_runs(&KEY, &frame, body), 524_290);
+    assert_eq!(frame[body..], mac(&KEY, &frame[..body]));
+    assert_eq!(verify(&KEY, &frame, body), PASSES);
+    frame[body - 1] ^= 0x80;
+    assert_eq!(verify(&KEY, &frame, body), FAILS);
+}
+
+#[test]
+fn a_bit_damaged_anywhere_fails() {
+    for body in (0..=80).chain([300]) {
+        let mut frame = counting(body + 16 + 5);
+        assert_eq!(seal(&KEY, &mut frame, body), 0);
+        for bit in 0..8 * (body + 16) {
+            frame[bit / 8] ^= 1 << (bit % 8);
+            assert_eq!(
+                verify(&KEY, &frame, body),
+                FAILS,
+                "body of {body}, bit {bit}"
+            );
+            frame[bit / 8] ^= 1 << (bit % 8);
+        }
+        // What stands after the tag is not part of the frame's content.
+        for bit in 8 * (body + 16)..8 * (body + 16 + 5) {
+            frame[bit / 8] ^= 1 << (bit % 8);
+            assert_eq!(
+                verify(&KEY, &frame, body),
+                PASSES,
+                "body of {body}, bit {bit}"
+            );
+        }
+        for bit in 0..128 {
+            let mut key = KEY;
+            key[bit / 8] ^= 1 << (bit % 8);
+            assert_eq!(verify(&key, &frame, body), FAILS, "bit {bit} of the key");
+        }
+    }
+}
+
+#[test]
+fn another_body_length_fails() {
+    let mut frame = counting(100);
+    assert_eq!(seal(&KEY, &mut frame, 60), 0);
+    for body in 0..=84 {
+        let verdict = if body == 60 { PASSES } else { FAILS };
+        assert_eq!(verify(&KEY, &frame, body), verdict, "body of {body}");
+    }
+}
+
+#[test]
+fn keys_of_other_lengths_are_refused_with_2() {
+    for length in (0..=40).filter(|n| *n != 16) {
+        assert_refused(2, &counting(length), &counting(60), 44);
+        // The first check that fails answers.
+        assert_refused(2, &counting(length), &counting(60), 45);
+        assert_refused(2, &counting(length), &[], usize::MAX);
+    }
+}
+
+#[test]
+fn frames_with_no_room_for_the_tag_are_refused_with_3() {
+    for length in 0..=64 {
+        let frame = counting(length);
+        for body in 0..=80 {
+            if body + 16 > length {
+                assert_refused(3, &KEY, &frame, body);
+            } else {
+                assert_eq!(seal(&KEY, &mut frame.clone(), body), 0);
+            }
+        }
+    }
+}
+
+#[test]
+fn huge_body_numbers_are_refused_with_3() {
+    for length in [0, 1, 15, 16, 17, 300] {
+        let frame = counting(length);
+        for less in 0..=40 {
+            assert_refused(3, &KEY, &frame, usize::MAX - less);
+        }
+        for body in [1 << 63, (1 << 63) - 16, 1 << 32, (1 << 32) - 16] {
+            assert_refused(3, &KEY, &frame, body);
+        }
+    }
+}
