@@ -49,8 +49,7 @@ extern "C" {
  *     key, key_length          the key, of 16 bytes
  *     message, message_length  the message, of at most 16 bytes
  *     out, out_length          where the output goes; out_length equals `length`
- *     length                   how many bytes of output, 1 to 16. Outputs of two lengths have nothing to do with each other: a shorter one is
- *                              not the beginning of a longer one
+ *     length                   how many bytes of output, 1 to 16. It enters the computation: an output is not to be had by cutting a longer one
  * Answers 0, 2, 5 or 6. */
 uint32_t ascon_prf_short(const uint8_t *key, size_t key_length, const uint8_t *message, size_t message_length, uint8_t *out, size_t out_length,
                          size_t length);

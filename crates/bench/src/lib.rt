@@ -94,7 +94,7 @@ pub extern "C" fn bench_tag(key: &[u8], message: &[u8], tag: &[u8]) -> u32
     0
 }
 
-// How many runs sealing a frame reports, which C is not told else; 0 where it is refused. The frame is sealed.
+// Seals a frame, and gives the runs that sealing reports, which the functions of crate sign do not tell; 0 where it is refused.
 #[no_mangle]
 pub extern "C" fn bench_seal_runs(key: &[u8], frame: &mut [u8], body: usize) -> u64
     ensures answer { λ r. ⌜ r ≡ sealAnswer (now (key .entry)) (now (frame .entry)) body .runs ⌝ }
@@ -104,7 +104,7 @@ pub extern "C" fn bench_seal_runs(key: &[u8], frame: &mut [u8], body: usize) -> 
     sealed.runs
 }
 
-// And judging one.
+// Judges a frame, and gives the runs that judging reports; 0 where it is refused.
 #[no_mangle]
 pub extern "C" fn bench_verify_runs(key: &[u8], frame: &[u8], body: usize) -> u64
     ensures { λ r. ⌜ r ≡ verifyAnswer (now (key .entry)) (now (frame .entry)) body .runs ⌝ }

@@ -1,4 +1,4 @@
--- A lent buffer after bytes were written into it. What stands where afterwards say the laws of proofs/Buffers.antt.
+-- A lent buffer after bytes were written into it. The laws of proofs/Buffers.antt tell it byte by byte.
 -- Assumes nothing.
 use mathlib.Core.List.{List, _++_}
 use Prim.Native.Nat.{ℕ, _+_}

@@ -7,10 +7,10 @@ use mathlib.Core.List.{List}
 use Prim.Native.Nat.{ℕ, _+_, _≤_, _<_}
 use native.Mathlib.Omega.{arith}
 use borrow.Author.Tests.{lt-ltb, le-ltb}
-use lib.ListN.{length, take}
+use lib.ListN.{length, getD, take, drop}
 use lib.Seq.{length-take-le, take-at}
 use Rattle.checks.specs.Buffers.{written}
-use Rattle.checks.proofs.Buffers.{length-written, read-written}
+use Rattle.checks.proofs.Buffers.{length-written, read-written, before-written, after-written}
 use Rattle.mode.specs.declared.Mode.the-variants.{Mac}
 use Rattle.mode.specs.Mode.{row}
 use Rattle.sponge.specs.Sponge.{oneShot}
@@ -49,10 +49,15 @@ module _ (key frame : List ℕ) (body : ℕ) (sixteen : length key ≡ 16) (room
   judged : verifyAnswer key frame body .passed ≡ same (tagIn frame body) (tagFor key frame body)
   judged = ap (λ (j : Judged). j .passed) (verify-done key frame body accepted)
 
-  -- a frame passes where the tag in it is the MAC of its body, and nowhere else
-  pub judged-both-ways : (verifyAnswer key frame body .passed ≡ true → tagIn frame body ≡ tagFor key frame body)
+  judged-tags : (verifyAnswer key frame body .passed ≡ true → tagIn frame body ≡ tagFor key frame body)
       × (tagIn frame body ≡ tagFor key frame body → verifyAnswer key frame body .passed ≡ true)
-  judged-both-ways = (λ p. same-equal _ _ (sym judged ∙ p), λ e. judged ∙ equal-same _ _ e)
+  judged-tags = (λ p. same-equal _ _ (sym judged ∙ p), λ e. judged ∙ equal-same _ _ e)
+
+  -- a frame passes where the sixteen bytes that begin at the end of its body are the MAC of the body, and nowhere else
+  pub judged-both-ways : (verifyAnswer key frame body .passed ≡ true → take 16 (drop body frame) ≡ oneShot (row Mac) key (take body frame) 16)
+      × (take 16 (drop body frame) ≡ oneShot (row Mac) key (take body frame) 16 → verifyAnswer key frame body .passed ≡ true)
+  unfolding tagIn tagFor
+  judged-both-ways = judged-tags
 
   -- a sealed frame: it is as long as it was, the tag in it is the one that was written, and its body is as it was, so that its MAC is too
   sealed : List ℕ
@@ -77,6 +82,22 @@ module _ (key frame : List ℕ) (body : ℕ) (sixteen : length key ≡ 16) (room
   unfolding tagFor
   sealed-needs = ap (λ (m : List ℕ). oneShot (row Mac) key m 16) sealed-body
 
+-- sealing writes the MAC of the body into the sixteen bytes that begin at its end, and every other byte stays
+module _ (key frame : List ℕ) (body : ℕ) (sixteen : length key ≡ 16) (room : body + 16 ≤ length frame) where
+  pub sealed-tag : take 16 (drop body (sealAfter key frame body)) ≡ oneShot (row Mac) key (take body frame) 16
+  unfolding sealed tagIn tagFor
+  sealed-tag = rw (seal-wrote key frame body (accepted key frame body sixteen room)) (sealed-has key frame body sixteen room)
+
+  pub sealed-before : (i : ℕ) → i < body → getD (sealAfter key frame body) i 0 ≡ getD frame i 0
+  sealed-before i h =
+      rw (seal-wrote key frame body (accepted key frame body sixteen room))
+      (before-written frame body (tagFor key frame body) (fits key frame body sixteen room) i 0 h)
+
+  pub sealed-after : (i : ℕ) → body + 16 ≤ i → getD (sealAfter key frame body) i 0 ≡ getD frame i 0
+  sealed-after i h =
+      rw (seal-wrote key frame body (accepted key frame body sixteen room))
+      (after-written frame body (tagFor key frame body) (fits key frame body sixteen room) i 0 (omega (arith, length-tagFor key frame body)))
+
 -- a frame that has been sealed is not refused, and passes
 pub sealed-passes : (key frame : List ℕ) (body : ℕ) → length key ≡ 16 → body + 16 ≤ length frame
     → (verifyAnswer key (sealAfter key frame body) body .refusal ≡ 0) × (verifyAnswer key (sealAfter key frame body) body .passed ≡ true)
@@ -86,5 +107,5 @@ sealed-passes key frame body sixteen room =
     let inside = sealed-room key frame body sixteen room in
     rw (seal-wrote key frame body (accepted key frame body sixteen room)) (
       ap (λ (j : Judged). j .refusal) (verify-done key after body (accepted key after body sixteen inside)),
-      judged-both-ways key after body sixteen inside .1 (sealed-has key frame body sixteen room ∙ sym (sealed-needs key frame body sixteen room)),
+      judged-tags key after body sixteen inside .1 (sealed-has key frame body sixteen room ∙ sym (sealed-needs key frame body sixteen room)),
     )

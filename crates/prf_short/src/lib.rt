@@ -5,11 +5,11 @@ ghost use lib.ListN.{length};
 ghost use Rattle.prf_short.specs.Short.{startWord, prfShort};
 ghost use Rattle.prf_short.specs.Call.{wrongOutput, shortAnswer, shortAfter};
 
-pub const KEY_LENGTH: usize = 16;
+const KEY_LENGTH: usize = 16;
 
-pub const LONGEST_MESSAGE: usize = 16;
+const LONGEST_MESSAGE: usize = 16;
 
-pub const LONGEST_OUTPUT: usize = 16;
+const LONGEST_OUTPUT: usize = 16;
 
 // The start word but for both lengths: the key's bits and the rounds.
 const START: u64 = 0x8000_4c00_0000_0000;
@@ -37,7 +37,7 @@ fn output(key: &[u8], message: &[u8], out: &mut [u8])
     state::copy_bytes(masked, (40 - out.len()) as u32, out);
 }
 
-// Whether an output has not this length, or not as many bytes are lent for it.
+// Whether the length of an output is not 1 to 16, or its buffer has another length.
 fn wrong_output(lent: usize, length: usize) -> bool
     ensures { λ r. ⌜ r ≡ wrongOutput lent length ⌝ }
 {

@@ -100,7 +100,7 @@ fn digits(mode: Mode, bytes: &[u8], n: usize, out: &mut [u8], text: &mut [u8])
     hex(&*out, text);
 }
 
-// The end of a line, or all of it: a length, a space, and digits.
+// Prints a length, a space, digits, and the end of the line.
 fn print_line(n: usize, text: &[u8]) {
     io::print_decimal(1, n as u64);
     io::write_all(1, b" ");

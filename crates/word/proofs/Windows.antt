@@ -160,7 +160,7 @@ wordsOf-listed (suc n) bs =
         let e : 8 + 8 * j ≡ 8 * suc j = omega arith in
         ap (λ (k : ℕ). fromBytes (take 8 (drop k bs))) e
 
--- the words that bytes make are zeros with the bytes xored in
+-- the n words that 8 × n bytes make are zeros with the bytes xored in
 pub words-xored : (n : ℕ) (bs : List ℕ) → Bytes bs → length bs ≡ 8 * n → wordsOf n bs ≡ xorFrom 0 bs (replicate n 0)
 words-xored n bs bytes e =
     wordsOf-listed n bs

@@ -135,7 +135,7 @@ xorBytes-at (x ∷ xs) [] i e = absurd (omega arith)
 xorBytes-at (x ∷ xs) (y ∷ ys) zero e = refl
 xorBytes-at (x ∷ xs) (y ∷ ys) (suc i) e = xorBytes-at xs ys i (omega arith)
 
--- the words that bytes make, read as bytes, are these bytes
+-- the n words that 8 × n bytes make, read as bytes, are these bytes
 pub words-read : (n : ℕ) (bs : List ℕ) → Bytes bs → length bs ≡ 8 * n → bytesFrom 0 (8 * n) (wordsOf n bs) ≡ bs
 unfolding byteAt
 words-read n bs bytes e =

@@ -1,6 +1,6 @@
 -- Bytes of 64-bit words, the highest byte of a word first: byte k of some words is byte k % 8, from the top, of word k / 8.
--- A word past the end reads 0, and is not written. What xoring means byte by byte say `xored-byte` and `xored-block`, and that the bytes of the words that
--- bytes make are these bytes says `words-read` (all in proofs/Xored.antt).
+-- A word past the end reads 0, and is not written. The laws `xored-byte` and `xored-block` tell xoring byte by byte, and `words-read` says that the words made of
+-- 8 × n bytes, read as bytes, are these (all in proofs/Xored.antt).
 -- Assumes nothing.
 use mathlib.Core.Bool.{cond}
 use mathlib.Core.List.{List, [], _∷_}
@@ -58,7 +58,7 @@ unfoldable pub toBytes : ℕ → ℕ → List ℕ
 toBytes zero x = []
 toBytes (suc n) x = x / 2 ^ (8 * n) % 256 ∷ toBytes n x
 
--- the n words that bytes make, eight to a word
+-- the n words that 8 × n bytes make
 unfoldable pub wordsOf : ℕ → List ℕ → List ℕ
 wordsOf zero bs = []
 wordsOf (suc n) bs = fromBytes (take 8 bs) ∷ wordsOf n (drop 8 bs)

@@ -64,7 +64,7 @@ fn only_the_lent_bytes_are_written() {
 }
 
 #[test]
-fn outputs_of_two_lengths_have_nothing_to_do_with_each_other() {
+fn an_output_is_not_cut_from_a_longer_one() {
     let long = expected(&KEY, b"deck", 16);
     let mut short = [0; 8];
     assert_eq!(prf_short(&KEY, b"deck", &mut short, 8), 0);
