@@ -19,35 +19,19 @@ struct work {
     int calls;
 };
 
-static void proved_short(void *with) {
-    const struct work *w = with;
-    for (int i = 0; i < w->calls; i++) answer = ascon_prf_short(key, 16, message, w->length, out, w->length, w->length);
-}
+/* A batch makes the same call again and again. */
+#define BATCH(name, call)                                       \
+    static void name(void *with) {                              \
+        const struct work *w = with;                            \
+        for (int i = 0; i < w->calls; i++) answer = call;       \
+    }
 
-static void plain_short(void *with) {
-    const struct work *w = with;
-    for (int i = 0; i < w->calls; i++) answer = plain_prf_short(key, 16, message, w->length, out, w->length, w->length);
-}
-
-static void proved_seal(void *with) {
-    const struct work *w = with;
-    for (int i = 0; i < w->calls; i++) answer = ascon_seal_frame(key, 16, frame, w->length + 16, w->length);
-}
-
-static void plain_seal(void *with) {
-    const struct work *w = with;
-    for (int i = 0; i < w->calls; i++) answer = plain_seal_frame(key, 16, frame, w->length + 16, w->length);
-}
-
-static void proved_verify(void *with) {
-    const struct work *w = with;
-    for (int i = 0; i < w->calls; i++) answer = ascon_verify_frame(key, 16, frame, w->length + 16, w->length);
-}
-
-static void plain_verify(void *with) {
-    const struct work *w = with;
-    for (int i = 0; i < w->calls; i++) answer = plain_verify_frame(key, 16, frame, w->length + 16, w->length);
-}
+BATCH(proved_short, ascon_prf_short(key, 16, message, w->length, out, w->length, w->length))
+BATCH(plain_short, plain_prf_short(key, 16, message, w->length, out, w->length, w->length))
+BATCH(proved_seal, ascon_seal_frame(key, 16, frame, w->length + 16, w->length))
+BATCH(plain_seal, plain_seal_frame(key, 16, frame, w->length + 16, w->length))
+BATCH(proved_verify, ascon_verify_frame(key, 16, frame, w->length + 16, w->length))
+BATCH(plain_verify, plain_verify_frame(key, 16, frame, w->length + 16, w->length))
 
 /* Whether one call of each side answers and leaves the same. */
 static int agree(batch *proved, batch *plain, size_t length) {

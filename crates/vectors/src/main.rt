@@ -1,5 +1,5 @@
-// Prints the outputs of the four modes and of the short function for messages of many lengths, whose bytes count up from 0. The stored output, crates/vectors/stdout, is the
-// outside vectors: known answers that were not made with this code.
+// Prints the outputs of the four modes and of the short function for messages of many lengths, whose bytes count up from 0. The stored output,
+// crates/vectors/stdout, is the outside vectors: known answers that were not made with this code.
 use mode::Mode;
 use sponge::Record;
 ghost use mathlib.Core.Path.{_≡_};
