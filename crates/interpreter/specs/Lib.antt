@@ -1,0 +1,4 @@
+pub mod Script
+pub mod Session
+pub mod Promises
+pub mod Theorems

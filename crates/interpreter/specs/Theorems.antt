@@ -1,0 +1,56 @@
+-- What a script prints, however its input comes. proofs/Theorems.antt proves it.
+-- Assumes nothing.
+use mathlib.Core.Path.{_≡_}
+use mathlib.Core.Bool.{true}
+use mathlib.Core.List.{List, [], _∷_, _++_}
+use Prim.Native.Nat.{ℕ, _≤_}
+use lib.ListN.{length}
+use Rattle.calls.specs.Machine.{machine, emptyMachine}
+use Rattle.hub.specs.Hub.{emptyHub, onHub}
+use Rattle.script.specs.Line.{longestLine}
+use Rattle.interpreter.specs.Script.{answerNames, output}
+use Rattle.interpreter.specs.Session.{begun, Reader, readerOf, Fed, silent, andThen, fed, finished, Filled, filled}
+
+-- chunks one after the other
+unfoldable pub joined : List (List ℕ) → List ℕ
+joined [] = []
+joined (c ∷ cs) = c ++ joined cs
+
+unfoldable pub fedAll : Reader → List (List ℕ) → Fed
+fedAll r [] = silent r
+fedAll r (c ∷ cs) = andThen (fed r c .text) (fedAll (fed r c .reader) cs)
+
+-- a script begins with any line buffer
+abbrev pub atFirst : List ℕ → Reader
+atFirst line = readerOf begun line
+
+-- what is printed of input in chunks: the names first, each chunk's answers, and what the end of the input adds
+unfoldable pub printed : List ℕ → List (List ℕ) → List ℕ
+printed line chunks =
+    answerNames ++ (fedAll (atFirst line) chunks .text ++ finished (fedAll (atFirst line) chunks .reader) .text)
+
+-- no more bytes than these leave a script going: a million lines of the longest length with their newlines, and one such line without
+abbrev pub mostInput : ℕ
+mostInput = 2101002100
+
+abbrev pub NotEmpty : List (List ℕ) → Type 0
+NotEmpty [] = Unit {0}
+NotEmpty (c ∷ cs) = (1 ≤ length c) × NotEmpty cs
+
+-- filling a buffer, with some text in it, from a chunk takes the chunk's first bytes: it leaves what feeding them leaves, and prints what they print
+pub record Taking (r : Reader) (text chunk : List ℕ) (f : Filled) : Type 0 where
+  pub taken : List ℕ
+  pub split : chunk ≡ taken ++ f .left
+  pub reader : f .reader ≡ fed r taken .reader
+  pub printed : f .text ≡ text ++ fed r taken .text
+
+pub record Scripts : Type 0 where
+  -- input cut into chunks anywhere prints what the whole script prints
+  pub cut : (line : List ℕ) (chunks : List (List ℕ)) → length line ≡ longestLine → printed line chunks ≡ output onHub emptyHub (joined chunks)
+  -- and that is what it prints on the plain machine
+  pub plain : (input : List ℕ) → output onHub emptyHub input ≡ output machine emptyMachine input
+  -- a chunk whose answers do not fit into a buffer is taken in parts
+  pub parts : (size : ℕ) (r : Reader) (text chunk : List ℕ) → Taking r text chunk (filled size r text chunk)
+  -- a program that reads a byte at least in each turn makes no more than so many turns before the script has stopped or its input has ended
+  pub turns : (line : List ℕ) (chunks : List (List ℕ)) → length line ≡ longestLine → NotEmpty chunks
+      → fedAll (atFirst line) chunks .reader .session .going ≡ true → length chunks ≤ mostInput

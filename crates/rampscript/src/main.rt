@@ -1,0 +1,134 @@
+// Reads a script from standard input and prints its answers: the loop over the interpreter, and nothing else. An error in reading or writing ends it; what was answered
+// before is written by then.
+use interpreter::Session;
+use libc::STDIN_FILENO;
+use libc::STDOUT_FILENO;
+ghost use mathlib.Core.Path.{_≡_};
+ghost use Rattle.interpreter.specs.Session.{begun, readerOf, finished};
+ghost use Rattle.rampscript.specs.Program.{more as moreTurns, Answering, Turning, Running};
+
+// A script after a chunk, and whether its answers were written.
+struct Answered {
+    session: Session,
+    wrote: bool,
+}
+
+// A script after a turn.
+struct Turn {
+    session: Session,
+    // how many bytes were read
+    count: usize,
+    // whether the read failed, and did not meet the end of the input
+    failed: bool,
+    // whether all answers were written
+    wrote: bool,
+}
+
+// The script at its beginning, with the line of names printed.
+fn start() -> Answered
+    ensures { λ r. ⌜ r .session ≡ begun ⌝ }
+{
+    let mut out = io::large_buffer();
+    let begun = interpreter::begin(&mut out);
+    let size = begun.size;
+    let wrote = io::write_all(STDOUT_FILENO, &out[..size]);
+    let session = begun.session;
+    Answered {
+        session: session,
+        wrote: wrote,
+    }
+}
+
+// Answers a chunk, in as many parts as its answers need buffers.
+fn answer(first: Session, chunk: &[u8], line: &mut [u8; 2100]) -> Answered
+    ensures { λ r. ⌜ Answering (readerOf first (now (line .entry))) (now (chunk .entry)) r (now (line .exit)) ⌝ }
+{
+    let mut out = io::large_buffer();
+    let mut session = first;
+    let mut at = 0;
+    while at < chunk.len() {
+        let filled = interpreter::fill(session, chunk, at, line, &mut out);
+        let after = filled.session;
+        session = after;
+        at = filled.next;
+        let size = filled.size;
+        if !io::write_all(STDOUT_FILENO, &out[..size]) {
+            return Answered {
+                session: session,
+                wrote: false,
+            };
+        }
+    }
+    Answered {
+        session: session,
+        wrote: true,
+    }
+}
+
+// Reads a chunk, whatever there is to read, and answers it.
+fn make_turn(session: Session, line: &mut [u8; 2100]) -> Turn
+    ensures { λ r. ⌜ Turning (readerOf session (now (line .entry))) r (now (line .exit)) ⌝ }
+{
+    let mut chunk = io::large_buffer();
+    let got = libc::read(STDIN_FILENO, &mut chunk);
+    let count = io::count(got, &chunk);
+    let answered = answer(session, &chunk[..count], line);
+    let after = answered.session;
+    Turn {
+        session: after,
+        count: count,
+        failed: got < 0,
+        wrote: answered.wrote,
+    }
+}
+
+fn more(turn: Turn) -> bool
+    ensures { λ r. ⌜ r ≡ moreTurns turn ⌝ }
+{
+    if !turn.wrote {
+        return false;
+    }
+    if turn.count == 0 {
+        return false;
+    }
+    turn.session.going
+}
+
+// Turn after turn.
+fn run(first: Session, line: &mut [u8; 2100]) -> Turn
+    ensures { λ r. ⌜ Running (readerOf first (now (line .entry))) r (now (line .exit)) ⌝ }
+{
+    let mut session = first;
+    loop {
+        let next = make_turn(session, line);
+        if !more(next) {
+            return next;
+        }
+        let after = next.session;
+        session = after;
+    }
+}
+
+// The input has ended.
+fn end(session: Session, line: &mut [u8; 2100]) -> bool
+    ensures { λ r. ⌜ now (line .exit) ≡ finished (readerOf session (now (line .entry))) .reader .line ⌝ }
+{
+    let mut out = io::large_buffer();
+    let size = interpreter::finish(session, line, &mut out);
+    io::write_all(STDOUT_FILENO, &out[..size])
+}
+
+fn main() {
+    let started = start();
+    if !started.wrote {
+        return;
+    }
+    let mut line = [0u8; 2100];
+    let first = started.session;
+    let last = run(first, &mut line);
+    if last.failed || !last.wrote {
+        return;
+    }
+    let session = last.session;
+    end(session, &mut line);
+}

@@ -1,0 +1,8 @@
+pub mod Text
+pub mod Number
+pub mod Hex
+pub mod Line
+pub mod Answer
+pub mod Input
+pub mod Parsed
+pub mod Laws

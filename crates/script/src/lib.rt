@@ -1,0 +1,17 @@
+// The script language of document 01's "Script program": lines are read, answers are written, and input is cut into lines. It knows no hub.
+mod answer;
+mod hex;
+mod input;
+mod line;
+mod number;
+mod text;
+
+pub use answer::Word;
+pub use answer::write_answer;
+pub use input::take_line;
+pub use line::Parsed;
+pub use line::Verb;
+pub use line::parse_line;
+pub use text::place_in;
+pub use text::put_bytes;
+pub use text::same;
