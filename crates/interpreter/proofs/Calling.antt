@@ -13,14 +13,12 @@ use Rattle.hub.specs.declared.Reply.{Reply}
 use Rattle.hub.specs.Hub.{openHub, feedHub, checkHub, closeHub, sumHub, onHub, replyOf}
 use Rattle.script.specs.declared.line.Verb.{Verb}
 use Rattle.script.specs.declared.line.Verb.the-variants.{Open, Feed, Draw, Check, Close, Sum}
-use Rattle.script.specs.declared.answer.Word.{Word}
 use Rattle.script.specs.Text.{Wrote}
 use Rattle.script.specs.Line.{Field, bytes as bytesField, Line}
-use Rattle.script.specs.Answer.{answerLine}
 use Rattle.script.specs.Parsed.{fieldIn, lineWith}
 use Rattle.interpreter.specs.declared.Session.{Session}
 use Rattle.interpreter.specs.declared.line.Stepped.{Stepped}
-use Rattle.interpreter.specs.Script.{drawOf, callFor, callOf, verbOf, wordFor, numberFor, bytesFor, answered, bytesAfter}
+use Rattle.interpreter.specs.Script.{drawOf, callFor, callOf, verbOf, bytesFor, answered, bytesAfter}
 use Rattle.interpreter.specs.Session.{goOn, called}
 use Rattle.interpreter.specs.Promises.{Stepping}
 
@@ -105,17 +103,17 @@ module _ (s : Session) (verb : Verb) (number size : ℕ) (bytes : List ℕ) (fit
   whole = callOf (lineWith verb number size bytes)
 
   pub answer-step : (reply : Reply) (after : List ℕ) → Called (s .hub) verb number (take size bytes) reply after
-      → (r : Stepped) (out : List ℕ) (from : ℕ) (last : List ℕ) (word : Word) (n : ℕ) (shown : List ℕ)
-      → word ≡ wordFor verb (reply .answer) → n ≡ numberFor verb (reply .answer) → shown ≡ bytesFor verb (reply .answer) after
-      → r .session ≡ goOn s (reply .hub) → Wrote out from (answerLine word n shown) last (r .size) → Stepping (called s whole) out from r last
+      → (r : Stepped) (out : List ℕ) (from : ℕ) (last shown : List ℕ) → shown ≡ after → r .session ≡ goOn s (reply .hub)
+      → Wrote out from (answered verb (reply .answer) shown) last (r .size) → Stepping (called s whole) out from r last
   unfolding answered
-  answer-step reply after c r out from last word n shown p q t next wrote =
+  answer-step reply after c r out from last shown t next wrote =
       let l = line-part verb number size bytes fits in
       let e : reply ≡ replyOf (onHub whole (s .hub)) = rw l at (c .0) in
       let f : after ≡ bytesAfter verb (take size bytes) (onHub whole (s .hub) .response .buffer) = rw l at (c .1) in
       let v : verbOf whole ≡ verb = verb-kept (lineWith verb number size bytes) in
       record {
         session = next ∙ ap (λ (x : Reply). goOn s (x .hub)) e;
-        text = rw (v, ← (bytes-kept verb (onHub whole (s .hub) .response .answer) (take size bytes) (onHub whole (s .hub) .response .buffer)), ← f)
-            (rw (p, q, t, e) at wrote);
+        text =
+            rw (v, ← (bytes-kept verb (onHub whole (s .hub) .response .answer) (take size bytes) (onHub whole (s .hub) .response .buffer)), ← f)
+            (rw (t, e) at wrote);
       }

@@ -8,6 +8,7 @@ ghost use mathlib.Core.Path.{_≡_};
 ghost use Prim.Native.Nat.{ℕ};
 ghost use lib.ListN.{length, replicate};
 ghost use Rattle.hub.specs.Hub.{onHub, replyOf};
+ghost use Rattle.script.specs.Text.{Wrote};
 ghost use Rattle.script.specs.Parsed.{lineWith};
 ghost use Rattle.interpreter.specs.Script as spec;
 
@@ -70,7 +71,7 @@ fn accepted_word(verb: Verb, answer: Answer) -> Word
     }
 }
 
-pub fn word_for(verb: Verb, answer: Answer) -> Word
+fn word_for(verb: Verb, answer: Answer) -> Word
     ensures { λ r. ⌜ r ≡ spec.wordFor verb answer ⌝ }
 {
     if answer.refusal != 0 {
@@ -92,7 +93,7 @@ fn accepted_number(verb: Verb, answer: Answer) -> u64
     }
 }
 
-pub fn number_for(verb: Verb, answer: Answer) -> u64
+fn number_for(verb: Verb, answer: Answer) -> u64
     ensures { λ r. ⌜ r ≡ spec.numberFor verb answer ⌝ }
 {
     if answer.refusal != 0 {
@@ -114,11 +115,24 @@ fn accepted_bytes(verb: Verb, buffer: &[u8]) -> &[u8]
     }
 }
 
-pub fn bytes_for(verb: Verb, answer: Answer, buffer: &[u8]) -> &[u8]
+fn bytes_for(verb: Verb, answer: Answer, buffer: &[u8]) -> &[u8]
     ensures { λ r. ⌜ now r ≡ spec.bytesFor verb answer (now (buffer .entry)) ⌝ }
 {
     if answer.refusal != 0 {
         return &buffer[..0];
     }
     accepted_bytes(verb, buffer)
+}
+
+// Writes an answer's line into a buffer from a place on, and answers the place after it.
+pub fn tell(verb: Verb, answer: Answer, bytes: &[u8], out: &mut [u8], from: usize) -> usize
+    ensures { λ r. ⌜ Wrote (now (out .entry)) from (spec.answered verb answer (now (bytes .entry))) (now (out .exit)) r ⌝ }
+{
+    script::write_answer(
+        out,
+        from,
+        word_for(verb, answer),
+        number_for(verb, answer),
+        bytes_for(verb, answer, bytes),
+    )
 }

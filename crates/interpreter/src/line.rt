@@ -1,17 +1,10 @@
 // One line of a script.
 use crate::Session;
-use crate::call::bytes_for;
 use crate::call::call;
-use crate::call::number_for;
-use crate::call::word_for;
+use crate::call::tell;
 use script::Parsed;
-use script::Verb;
 use script::Word;
-ghost use Prim.Native.Nat.{_<_, _≤_};
-ghost use lib.ListN.{length};
-ghost use Rattle.script.specs.Parsed.{lineWith};
-ghost use Rattle.interpreter.specs.Script.{callOf};
-ghost use Rattle.interpreter.specs.Session.{stepped, stopped, called};
+ghost use Rattle.interpreter.specs.Session.{stepped, stopped};
 ghost use Rattle.interpreter.specs.Promises.{Stepping};
 
 // The session after a line, and the place after what was printed of it.
@@ -30,51 +23,6 @@ pub fn stop(session: Session, out: &mut [u8], from: usize) -> Stepped
         session: session.halt(),
         size: size,
     }
-}
-
-// A line that was read into bytes.
-fn answer_in(
-    session: Session,
-    verb: Verb,
-    number: u32,
-    size: usize,
-    bytes: &mut [u8],
-    out: &mut [u8],
-    from: usize,
-) -> Stepped
-    requires { ⌜ (session .number < 4294967295) × (size ≤ length (now bytes)) ⌝ }
-    ensures { λ r. ⌜ Stepping (called session (callOf (lineWith verb number size (now (bytes .entry))))) (now (out .entry)) from r (now (out .exit)) ⌝ }
-{
-    let before = session.hub;
-    let reply = call(before, verb, number, &mut bytes[..size]);
-    let told = reply.answer;
-    let end = script::write_answer(
-        out,
-        from,
-        word_for(verb, told),
-        number_for(verb, told),
-        bytes_for(verb, told, &bytes[..size]),
-    );
-    let after = reply.hub;
-    Stepped {
-        session: session.go_on(after),
-        size: end,
-    }
-}
-
-fn answer(
-    session: Session,
-    verb: Verb,
-    number: u32,
-    size: usize,
-    bytes: &mut [u8; 1024],
-    out: &mut [u8],
-    from: usize,
-) -> Stepped
-    requires { ⌜ (session .number < 4294967295) × (size ≤ 1024) ⌝ }
-    ensures { λ r. ⌜ Stepping (called session (callOf (lineWith verb number size (now (bytes .entry))))) (now (out .entry)) from r (now (out .exit)) ⌝ }
-{
-    answer_in(session, verb, number, size, bytes, out, from)
 }
 
 // Runs a line: what it prints goes into out from a place on. What does not fit is left out.
@@ -101,7 +49,16 @@ pub fn step(session: Session, line: &[u8], out: &mut [u8], from: usize) -> Stepp
             verb,
             number: n,
             size,
-        } => answer(session, verb, n, size, &mut bytes, out, from),
+        } => {
+            let before = session.hub;
+            let reply = call(before, verb, n, &mut bytes[..size]);
+            let end = tell(verb, reply.answer, &bytes[..size], out, from);
+            let after = reply.hub;
+            Stepped {
+                session: session.go_on(after),
+                size: end,
+            }
+        }
         Parsed::Malformed => stop(session, out, from),
     }
 }

@@ -1,16 +1,32 @@
--- `step` meets its contract, by what the line means.
+-- `step` meets its contract, by what the line means. A call is made with the part of the buffer that the line was read into.
 -- Assumes nothing.
 use mathlib.Core.Path.{_≡_, refl, sym, ap, _∙_}
+use Prim.Native.Nat.{_≤_}
 use native.Mathlib.Omega.{arith}
 use denote.Ref.{now}
+use lib.ListN.{length, drop, length-append}
+use lib.Seq.{length-take-le, take-at}
 use Rattle.script.specs.Line.{parse}
 use Rattle.script.specs.Parsed.{lineIn, told}
 use Rattle.script.proofs.Texts.{wrote-none}
-use Rattle.script.proofs.Told.{call-size}
+use Rattle.script.proofs.Told.{call-size, buffer-length}
+use Rattle.interpreter.proofs.Calling.{lent-length, answer-step}
 use Rattle.interpreter.proofs.Meaning.{step-names, step-no-names, step-too-many, step-call, step-malformed}
 use borrow.Author.Needs.{needs}
 use Rattle.interpreter.proofs.line.step.Statement.{statement}
 use Rattle.interpreter.proofs.line.step.Tie as tie
+
+-- the line's bytes, or a draw's count, fit the buffer
+fits : (c : tie.After-verb) → c .verb .given .0 .1 .1 .0 ≤ length (c .before .before .parse-line .last .1 .0)
+fits c =
+    let line = now (c .before .before .before .before .before .before .before .before .args .line) in
+    let answer : c .before .before .parse-line .result ≡ told (parse line) = c .before .before .parse-line .ensures .1 .0 in
+    let room = ap length (c .before .before .parse-line .ensures .1 .1) ∙ buffer-length _ (parse line) in
+    omega (arith, call-size line _ _ _ (sym answer ∙ c .verb .given .1), room)
+
+-- the part that was lent to the call keeps its length
+part : (c : tie.After-call) → length (c .call .last .1 .1 .1 .0) ≡ c .before .before .before .before .verb .given .0 .1 .1 .0
+part c = c .call .kept .1 .1 .1 .0 ∙ length-take-le _ _ (fits (c .before .before .before .before))
 
 slice-aggregate-same : tie.Need-slice-aggregate-same
 slice-aggregate-same c = search needs
@@ -61,11 +77,26 @@ parse-line-requires c κs = search needs
 enum-known-verb : tie.Need-enum-known-verb
 enum-known-verb c = search needs
 
-answer-requires : tie.Need-answer-requires
-answer-requires c κs =
-    let line = now (c .before .before .before .before .before .before .before .before .before .before .before .args .line) in
-    let answer : c .before .before .before .before .before .parse-line .result ≡ told (parse line) = c .before .before .before .before .before .parse-line .ensures .1 .0 in
-    (omega arith, call-size line _ _ _ (sym answer ∙ c .before .before .before .verb .given .1))
+array-borrow-prefix-bytes : tie.Need-array-borrow-prefix-bytes
+array-borrow-prefix-bytes c = fits (c .before .before)
+
+slice-aggregate-call : tie.Need-slice-aggregate-call
+slice-aggregate-call c = sym (length-take-le _ _ (fits (c .before .before .before)))
+
+call-requires : tie.Need-call-requires
+call-requires c κs = search needs
+
+array-share-prefix-bytes : tie.Need-array-share-prefix-bytes
+array-share-prefix-bytes c = omega (arith, length-append (c .before .call .last .1 .1 .1 .0) (drop (c .before .before .before .before .before .verb .given .0 .1 .1 .0) (c .before .before .before .before .before .before .before .parse-line .last .1 .0)), part (c .before))
+
+slice-aggregate-tell : tie.Need-slice-aggregate-tell
+slice-aggregate-tell c = lent-length (c .before .before .before .before .before .before .verb .given .0 .1 .1 .0) (c .before .before .call .last .1 .1 .1 .0) _ (part (c .before .before))
+
+tell-requires : tie.Need-tell-requires
+tell-requires c κs = search needs
+
+go-on-requires-2 : tie.Need-go-on-requires-2
+go-on-requires-2 c κs = search needs
 
 enum-told : tie.Need-enum-told
 enum-told c = search needs
@@ -78,9 +109,12 @@ same-length-4 c = search needs
 
 returns-4 : tie.Need-returns-4
 returns-4 c =
-    let a = c .before .before .before .before .before .before .before .before .before .before .before .before .before .before .args in
-    let read = sym (c .before .before .before .before .before .before .before .before .parse-line .ensures .0) ∙ ap (λ p. lineIn p (c .before .before .before .before .before .before .before .before .parse-line .last .1 .0)) (c .before .before .before .before .before .before .verb .given .1) in
-    rw (step-call (a .session) (now (a .line)) (c .before .before .before .before .before .before .before .before .before .before .before .if1 .left) (c .before .before .before .before .before .before .before .before .before .before .if3 .left) _ read) (c .before .before .answer .ensures)
+    let a = c .before .before .before .before .before .before .before .before .before .before .before .before .before .before .before .before .before .before .before .before .args in
+    let lent = c .before .before .before .before .before .before .before .before .before .before .before .before .before .before .parse-line .last .1 .0 in
+    let read = sym (c .before .before .before .before .before .before .before .before .before .before .before .before .before .before .parse-line .ensures .0) ∙ ap (λ p. lineIn p lent) (c .before .before .before .before .before .before .before .before .before .before .before .before .verb .given .1) in
+    rw (step-call (a .session) (now (a .line)) (c .before .before .before .before .before .before .before .before .before .before .before .before .before .before .before .before .before .if1 .left) (c .before .before .before .before .before .before .before .before .before .before .before .before .before .before .before .before .if3 .left) _ read)
+    (answer-step (a .session) _ _ _ lent (fits (c .before .before .before .before .before .before .before .before .before .before .before .before)) (c .before .before .before .before .before .before .before .before .call .result) (c .before .before .before .before .before .before .before .before .call .last .1 .1 .1 .0) (c .before .before .before .before .before .before .before .before .call .ensures) _ _ _ _ _
+    (take-at (c .before .before .before .before .before .before .before .before .call .last .1 .1 .1 .0) _ _ (part (c .before .before .before .before .before .before .before .before))) (c .go-on2 .ensures) (c .before .before .before .before .tell .ensures))
 
 same-length-5 : tie.Need-same-length-5
 same-length-5 c = search needs
@@ -109,7 +143,13 @@ step-spec =
     returns-3
     parse-line-requires
     enum-known-verb
-    answer-requires
+    array-borrow-prefix-bytes
+    slice-aggregate-call
+    call-requires
+    array-share-prefix-bytes
+    slice-aggregate-tell
+    tell-requires
+    go-on-requires-2
     enum-told
     stop-requires-3
     same-length-4
