@@ -12,3 +12,4 @@ pub mod Ending
 pub mod Bounds
 pub mod Whole
 pub mod Theorems
+pub mod Examples
