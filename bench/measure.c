@@ -66,8 +66,7 @@ static int ascending(const void *a, const void *b) {
     return (x > y) - (x < y);
 }
 
-/* The value with the given share of the sorted values below it. */
-static double share(double *values, int n, double part) {
+double share(double *values, int n, double part) {
     qsort(values, (size_t)n, sizeof *values, ascending);
     return values[(int)(part * (n - 1))];
 }

@@ -13,4 +13,7 @@ void heading(void);
    A batch does `units` units. */
 void compare(const char *name, batch *proved, batch *plain, void *with, int pairs, double units);
 
+/* Sorts values, and gives the one with the given share of them below it: 0.5 for the median, 0.25 and 0.75 for the quartiles. */
+double share(double *values, int n, double part);
+
 #endif

@@ -33,7 +33,7 @@ fn draw(before: Hub, ticket: u32, buffer: &mut [u8]) -> Reply
 }
 
 // Makes the call. The bytes are the line's; for a draw they are as many as it draws, and then those drawn.
-pub fn call(before: Hub, verb: Verb, number: u32, bytes: &mut [u8]) -> Reply
+pub(crate) fn call(before: Hub, verb: Verb, number: u32, bytes: &mut [u8]) -> Reply
     ensures reply { λ r. ⌜ r ≡ replyOf (onHub (spec.callOf (lineWith verb number (length (now (bytes .entry))) (now (bytes .entry)))) before) ⌝ }
     ensures bytes { λ r. ⌜ now (bytes .exit) ≡ spec.bytesAfter verb (now (bytes .entry)) (onHub (spec.callOf (lineWith verb number (length (now (bytes .entry))) (now (bytes .entry)))) before .response .buffer) ⌝ }
 {
@@ -125,7 +125,7 @@ fn bytes_for(verb: Verb, answer: Answer, buffer: &[u8]) -> &[u8]
 }
 
 // Writes an answer's line into a buffer from a place on, and answers the place after it.
-pub fn tell(verb: Verb, answer: Answer, bytes: &[u8], out: &mut [u8], from: usize) -> usize
+pub(crate) fn tell(verb: Verb, answer: Answer, bytes: &[u8], out: &mut [u8], from: usize) -> usize
     ensures { λ r. ⌜ Wrote (now (out .entry)) from (spec.answered verb answer (now (bytes .entry))) (now (out .exit)) r ⌝ }
 {
     script::write_answer(

@@ -14,7 +14,7 @@ pub struct Stepped {
 }
 
 // A malformed line.
-pub fn stop(session: Session, out: &mut [u8], from: usize) -> Stepped
+pub(crate) fn stop(session: Session, out: &mut [u8], from: usize) -> Stepped
     ensures { λ r. ⌜ Stepping (stopped session) (now (out .entry)) from r (now (out .exit)) ⌝ }
 {
     let none = [0u8; 1];

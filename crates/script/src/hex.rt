@@ -27,7 +27,7 @@ fn is_digit(b: u8) -> bool
 }
 
 // All bytes are looked at, whatever they are.
-pub fn hex_pairs(s: &[u8]) -> bool
+pub(crate) fn hex_pairs(s: &[u8]) -> bool
     ensures { λ r. ⌜ r ≡ spec.hexPairs (now (s .entry)) ⌝ }
 {
     let mut all = s.len() % 2 == 0;
@@ -52,7 +52,7 @@ fn nibble(b: u8) -> u8
 }
 
 // The bytes that pairs of digits stand for go to the start of the buffer.
-pub fn decode(s: &[u8], buffer: &mut [u8]) -> usize
+pub(crate) fn decode(s: &[u8], buffer: &mut [u8]) -> usize
     requires { ⌜ (spec.hexPairs (now s) ≡ true) × (length (now s) ≤ 2 * length (now buffer)) ⌝ }
     ensures { λ r. ⌜ (now (buffer .exit) ≡ sets (now (buffer .entry)) 0 (spec.decoded (now (s .entry)))) × (r ≡ length (spec.decoded (now (s .entry)))) ⌝ }
 {
@@ -90,7 +90,7 @@ fn put_hex(out: &mut [u8], at: usize, bytes: &[u8]) -> usize
 }
 
 // Bytes as a field: `-` for none.
-pub fn put_field(out: &mut [u8], at: usize, bytes: &[u8]) -> usize
+pub(crate) fn put_field(out: &mut [u8], at: usize, bytes: &[u8]) -> usize
     ensures { λ r. ⌜ Wrote (now (out .entry)) at (spec.bytesText (now (bytes .entry))) (now (out .exit)) r ⌝ }
 {
     if bytes.len() == 0 {

@@ -24,7 +24,7 @@ fn plain_start(s: &[u8]) -> bool
     s[0] != b'0'
 }
 
-pub fn number_of(s: &[u8]) -> Number
+pub(crate) fn number_of(s: &[u8]) -> Number
     ensures { λ r. ⌜ numberIn r ≡ spec.numberOf (now (s .entry)) ⌝ }
 {
     if !plain_start(s) {
@@ -49,7 +49,7 @@ pub fn number_of(s: &[u8]) -> Number
     Number::Value(value as u32)
 }
 
-pub fn put_decimal(out: &mut [u8], at: usize, n: u64) -> usize
+pub(crate) fn put_decimal(out: &mut [u8], at: usize, n: u64) -> usize
     ensures { λ r. ⌜ Wrote (now (out .entry)) at (spec.decimal n) (now (out .exit)) r ⌝ }
 {
     if n < 10 {

@@ -22,7 +22,7 @@ pub fn same(a: &[u8], b: &[u8]) -> bool
 }
 
 // The place of the first b, or the length where there is none.
-pub fn find(s: &[u8], b: u8) -> usize
+pub(crate) fn find(s: &[u8], b: u8) -> usize
     ensures { λ r. ⌜ r ≡ length (spec.before b (now (s .entry))) ⌝ }
 {
     let mut i = 0;
@@ -35,14 +35,14 @@ pub fn find(s: &[u8], b: u8) -> usize
     i
 }
 
-pub fn before(s: &[u8], b: u8) -> &[u8]
+pub(crate) fn before(s: &[u8], b: u8) -> &[u8]
     ensures { λ r. ⌜ now r ≡ spec.before b (now (s .entry)) ⌝ }
 {
     let end = find(s, b);
     &s[..end]
 }
 
-pub fn after(s: &[u8], b: u8) -> &[u8]
+pub(crate) fn after(s: &[u8], b: u8) -> &[u8]
     ensures { λ r. ⌜ now r ≡ spec.after b (now (s .entry)) ⌝ }
 {
     let at = find(s, b);
@@ -65,7 +65,7 @@ pub fn place_in(out: &[u8], at: usize) -> usize
     out.len()
 }
 
-pub fn put_byte(out: &mut [u8], at: usize, b: u8) -> usize
+pub(crate) fn put_byte(out: &mut [u8], at: usize, b: u8) -> usize
     ensures { λ r. ⌜ spec.Wrote (now (out .entry)) at (b ∷ []) (now (out .exit)) r ⌝ }
 {
     if at < out.len() {

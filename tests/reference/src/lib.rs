@@ -1,6 +1,7 @@
 //! Ascon, written from the papers for comparison alone: slow, bit place by bit place, and sharing nothing with the code under test.
 
 pub mod machine;
+pub mod script;
 
 /// Table 3 of source document 003, as printed.
 const ROUND_CONSTANTS: [u64; 12] = [

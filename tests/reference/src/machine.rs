@@ -45,6 +45,7 @@ struct Entry {
     fed: Vec<u8>,
     feeding: bool,
     drawn: usize,
+    output: Vec<u8>,
 }
 
 /// The entry of ticket t is number t - 1.
@@ -63,8 +64,14 @@ fn most_drawn(mode: &Mode) -> u128 {
 }
 
 impl Entry {
-    fn output(&self, length: usize) -> Vec<u8> {
-        sponge(permute, self.mode, &self.key, &self.fed, length).0
+    /// So many first bytes of the output, once feeding has ended. They are kept, as they stay the same; where more are asked for, all are worked out anew, and up to twice as many: so a long
+    /// output can be drawn in many small parts.
+    fn output(&mut self, length: usize) -> &[u8] {
+        if self.output.len() < length {
+            let more = length.next_power_of_two();
+            self.output = sponge(permute, self.mode, &self.key, &self.fed, more).0;
+        }
+        &self.output[..length]
     }
 
     /// The formula for the run count.
@@ -127,6 +134,7 @@ impl Machine {
                     fed: Vec::new(),
                     feeding: true,
                     drawn: 0,
+                    output: Vec::new(),
                 });
                 answer.ticket = self.entries.len() as u32;
                 answer.runs = self.entries.last().unwrap().runs();

@@ -1,0 +1,322 @@
+/* The script program in plain C, the peer of rampscript: it reads the same lines from standard input and prints the same answers. */
+#include "plain.h"
+
+#include <errno.h>
+#include <stdlib.h>
+#include <string.h>
+#include <unistd.h>
+
+enum { TICKETS = 16, MOST_FED = 16777216, MOST_BYTES = 1024, MOST_LINES = 1000000, LONGEST_LINE = 2100, LONGEST_ANSWER = 2100, BUFFER = 65536 };
+
+/* The four modes, by number; number 0 is none. */
+struct mode {
+    uint32_t feed_rate, draw_rate, key, most_drawn;
+    uint64_t start;
+};
+
+static const struct mode modes[5] = {
+    {0, 0, 0, 0, 0},
+    {32, 16, 16, 1048576, 0x80808c0000000000u},
+    {32, 16, 16, 16, 0x80808c0000000080u},
+    {8, 8, 0, 32, 0x00400c0000000100u},
+    {8, 8, 0, 1048576, 0x00400c0000000000u},
+};
+
+/* A free place has ticket 0. */
+struct record {
+    uint64_t words[5], runs;
+    uint32_t ticket, mode, fed, drawn;
+    int feeding;
+};
+
+static struct {
+    struct record records[TICKETS];
+    uint32_t issued;
+    uint64_t closed_runs;
+} hub;
+
+/* A line's bytes, which become the answer's. */
+static uint8_t bytes[MOST_BYTES];
+
+static char output[BUFFER];
+static size_t filled;
+
+static void flush(void) {
+    for (size_t done = 0; done < filled;) {
+        ssize_t n = write(STDOUT_FILENO, output + done, filled - done);
+        if (n < 0 && errno == EINTR) continue;
+        if (n <= 0) exit(1);
+        done += (size_t)n;
+    }
+    filled = 0;
+}
+
+static void put(const char *text, size_t length) {
+    memcpy(output + filled, text, length);
+    filled += length;
+}
+
+/* An answer: its word, the number, and bytes or a dash. */
+static void answer(const char *word, uint64_t number, size_t count) {
+    static const char digits[] = "0123456789abcdef";
+    char decimal[20];
+    size_t n = sizeof decimal;
+    if (BUFFER - filled < LONGEST_ANSWER) flush();
+    put(word, strlen(word));
+    put(" ", 1);
+    do decimal[--n] = (char)('0' + number % 10);
+    while (number /= 10);
+    put(decimal + n, sizeof decimal - n);
+    put(" ", 1);
+    if (count == 0) put("-", 1);
+    for (size_t i = 0; i < count; i++) {
+        output[filled++] = digits[bytes[i] >> 4];
+        output[filled++] = digits[bytes[i] & 15];
+    }
+    put("\n", 1);
+}
+
+static void run(struct record *r) {
+    plain_permute_row(r->words, 5);
+    r->runs++;
+}
+
+static uint64_t load(const uint8_t *from) {
+    uint64_t x;
+    memcpy(&x, from, 8);
+    return __builtin_bswap64(x);
+}
+
+static void xor_byte(struct record *r, uint32_t at, uint8_t byte) { r->words[at / 8] ^= (uint64_t)byte << (56 - at % 8 * 8); }
+
+static void feed(struct record *r, size_t count) {
+    uint32_t rate = modes[r->mode].feed_rate, at = r->fed % rate;
+    size_t i = 0;
+    r->fed += (uint32_t)count;
+    while (i < count) {
+        if (at == 0 && count - i >= rate) {
+            for (uint32_t j = 0; j < rate / 8; j++, i += 8) r->words[j] ^= load(bytes + i);
+            run(r);
+        } else {
+            xor_byte(r, at++, bytes[i++]);
+            if (at == rate) {
+                run(r);
+                at = 0;
+            }
+        }
+    }
+}
+
+static void end_feeding(struct record *r) {
+    if (!r->feeding) return;
+    r->feeding = 0;
+    xor_byte(r, r->fed % modes[r->mode].feed_rate, 0x80);
+    if (modes[r->mode].key) r->words[4] ^= 1;
+    run(r);
+}
+
+static uint8_t output_byte(const struct record *r, uint32_t at) { return (uint8_t)(r->words[at / 8] >> (56 - at % 8 * 8)); }
+
+static void draw(struct record *r, size_t count) {
+    uint32_t rate = modes[r->mode].draw_rate;
+    for (size_t i = 0; i < count; i++, r->drawn++) {
+        uint32_t at = r->drawn % rate;
+        if (at == 0 && r->drawn) run(r);
+        bytes[i] = output_byte(r, at);
+    }
+}
+
+static int tag_matches(const struct record *r, size_t count) {
+    uint8_t difference = 0;
+    for (uint32_t i = 0; i < count; i++) difference |= bytes[i] ^ output_byte(r, i);
+    return difference == 0;
+}
+
+/* Finds an open ticket's record; gives the refusal, or 0. */
+static uint32_t find(uint32_t ticket, struct record **r) {
+    if (ticket == 0 || ticket > hub.issued) return 11;
+    for (*r = hub.records; *r < hub.records + TICKETS; ++*r) {
+        if ((*r)->ticket == ticket) return 0;
+    }
+    return 12;
+}
+
+/* The calls: each gives its refusal, or 0 having answered. */
+static uint32_t call_open(uint32_t mode, size_t key) {
+    struct record *r = hub.records;
+    if (mode < 1 || mode > 4) return 1;
+    if (key != modes[mode].key) return 2;
+    if (hub.issued == UINT32_MAX) return 14;
+    while (r < hub.records + TICKETS && r->ticket) r++;
+    if (r == hub.records + TICKETS) return 13;
+    *r = (struct record){.words = {modes[mode].start}, .ticket = ++hub.issued, .mode = mode, .feeding = 1};
+    if (key) {
+        r->words[1] = load(bytes);
+        r->words[2] = load(bytes + 8);
+    }
+    run(r);
+    answer("ok", r->ticket, 0);
+    return 0;
+}
+
+static uint32_t call_feed(uint32_t ticket, size_t count) {
+    struct record *r;
+    uint32_t refusal = find(ticket, &r);
+    if (refusal) return refusal;
+    if (!r->feeding) return 15;
+    if (r->fed + count > MOST_FED) return 16;
+    feed(r, count);
+    answer("ok", r->runs, 0);
+    return 0;
+}
+
+static uint32_t call_draw(uint32_t ticket, size_t count) {
+    struct record *r;
+    uint32_t refusal = find(ticket, &r);
+    if (refusal) return refusal;
+    if (r->drawn + count > modes[r->mode].most_drawn) return 17;
+    end_feeding(r);
+    draw(r, count);
+    answer("ok", r->runs, count);
+    return 0;
+}
+
+static uint32_t call_check(uint32_t ticket, size_t tag) {
+    struct record *r;
+    uint32_t refusal = find(ticket, &r);
+    if (refusal) return refusal;
+    if (r->mode != 2) return 18;
+    if (tag < 8 || tag > 16) return 4;
+    end_feeding(r);
+    answer(tag_matches(r, tag) ? "pass" : "fail", r->runs, 0);
+    return 0;
+}
+
+static uint32_t call_close(uint32_t ticket) {
+    struct record *r;
+    uint32_t refusal = find(ticket, &r);
+    if (refusal) return refusal;
+    r->ticket = 0;
+    hub.closed_runs += r->runs;
+    answer("ok", r->runs, 0);
+    return 0;
+}
+
+static uint32_t call_sum(void) {
+    uint64_t sum = hub.closed_runs;
+    for (int i = 0; i < TICKETS; i++) {
+        if (hub.records[i].ticket) sum += hub.records[i].runs;
+    }
+    answer("ok", sum, 0);
+    return 0;
+}
+
+/* A digit's value, or 16. */
+static unsigned digit(uint8_t c) {
+    if (c >= '0' && c <= '9') return c - '0';
+    if (c >= 'a' && c <= 'f') return c - 'a' + 10u;
+    return 16;
+}
+
+/* Reads a number up to the space after it; gives what follows the space, or 0. */
+static const uint8_t *read_number(const uint8_t *p, const uint8_t *end, uint32_t *number) {
+    uint64_t n = 0;
+    const uint8_t *first = p;
+    for (; p < end && *p >= '0' && *p <= '9'; p++) {
+        n = 10 * n + (*p - '0');
+        if (n > UINT32_MAX) return 0;
+    }
+    if (p == first || (*first == '0' && p - first > 1) || p == end || *p != ' ') return 0;
+    *number = (uint32_t)n;
+    return p + 1;
+}
+
+/* Reads the rest of a line as bytes; gives whether it is that. */
+static int read_bytes(const uint8_t *p, const uint8_t *end, size_t *count) {
+    size_t n = (size_t)(end - p);
+    *count = 0;
+    if (n == 1 && *p == '-') return 1;
+    if (n == 0 || n % 2 || n > 2 * MOST_BYTES) return 0;
+    for (; p < end; p += 2) {
+        unsigned high = digit(p[0]), low = digit(p[1]);
+        if ((high | low) & 16) return 0;
+        bytes[(*count)++] = (uint8_t)(high << 4 | low);
+    }
+    return 1;
+}
+
+/* Runs a line of values; gives whether it is well-formed. */
+static int run_line(const uint8_t *p, const uint8_t *end) {
+    static const struct {
+        char name[8];
+        size_t length;
+    } calls[] = {{"open ", 5}, {"feed ", 5}, {"draw ", 5}, {"check ", 6}, {"close ", 6}, {"sum ", 4}};
+    size_t which = 0, count;
+    uint32_t number, refusal;
+    while (which < 6 && ((size_t)(end - p) < calls[which].length || memcmp(p, calls[which].name, calls[which].length))) which++;
+    if (which == 6) return 0;
+    p = read_number(p + calls[which].length, end, &number);
+    if (!p || !read_bytes(p, end, &count)) return 0;
+    switch (which) {
+    case 0: refusal = call_open(number, count); break;
+    case 1: refusal = call_feed(number, count); break;
+    case 2:
+        if (count != 2) return 0;
+        count = (size_t)bytes[0] << 8 | bytes[1];
+        if (count > MOST_BYTES) return 0;
+        refusal = call_draw(number, count);
+        break;
+    case 3: refusal = call_check(number, count); break;
+    case 4:
+        if (count) return 0;
+        refusal = call_close(number);
+        break;
+    default:
+        if (number || count) return 0;
+        refusal = call_sum();
+    }
+    if (refusal) answer("no", refusal, 0);
+    return 1;
+}
+
+/* Line 1 is the line of names. Gives whether to go on. */
+static int take_line(uint32_t line, const uint8_t *p, const uint8_t *end) {
+    static const char names[] = "call number bytes";
+    size_t length = (size_t)(end - p);
+    int right = line == 1 ? length == sizeof names - 1 && memcmp(p, names, length) == 0 : line <= MOST_LINES && length <= LONGEST_LINE && run_line(p, end);
+    if (!right) answer("stop", line, 0);
+    return right;
+}
+
+int main(void) {
+    static uint8_t input[BUFFER];
+    size_t begin = 0, end = 0;
+    uint32_t line = 1;
+    put("answer number bytes\n", 20);
+    for (;;) {
+        const uint8_t *newline = memchr(input + begin, '\n', end - begin);
+        if (newline) {
+            if (!take_line(line++, input + begin, newline)) break;
+            begin = (size_t)(newline - input) + 1;
+            continue;
+        }
+        if (end - begin > LONGEST_LINE) {
+            answer("stop", line, 0);
+            break;
+        }
+        flush();
+        memmove(input, input + begin, end - begin);
+        end -= begin;
+        begin = 0;
+        ssize_t n = read(STDIN_FILENO, input + end, BUFFER - end);
+        if (n < 0 && errno == EINTR) continue;
+        if (n < 0) return 1;
+        if (n == 0) {
+            if (end > 0 || line == 1) take_line(line, input, input + end);
+            break;
+        }
+        end += (size_t)n;
+    }
+    flush();
+    return 0;
+}

@@ -1,0 +1,377 @@
+//! Random scripts: days of calls that reach every answer, and damage to them.
+use reference::script::hex;
+
+/// A generator of test numbers (splitmix64): the same numbers for the same seed.
+pub struct Numbers(pub u64);
+
+impl Numbers {
+    fn number(&mut self) -> u64 {
+        self.0 = self.0.wrapping_add(0x9e3779b97f4a7c15);
+        let mut z = self.0;
+        z = (z ^ z >> 30).wrapping_mul(0xbf58476d1ce4e5b9);
+        z = (z ^ z >> 27).wrapping_mul(0x94d049bb133111eb);
+        z ^ z >> 31
+    }
+
+    pub fn below(&mut self, limit: usize) -> usize {
+        (self.number() % limit as u64) as usize
+    }
+
+    /// From a to b, both included.
+    pub fn between(&mut self, a: usize, b: usize) -> usize {
+        a + self.below(b - a + 1)
+    }
+
+    pub fn one_in(&mut self, times: usize) -> bool {
+        self.below(times) == 0
+    }
+
+    pub fn pick<T: Copy>(&mut self, of: &[T]) -> T {
+        of[self.below(of.len())]
+    }
+
+    pub fn bytes(&mut self, length: usize) -> Vec<u8> {
+        (0..length).map(|_| self.number() as u8).collect()
+    }
+}
+
+/// What the writer of a script remembers of a ticket. It only guides what is written next; what is right, the reference says.
+struct Ticket {
+    mode: usize,
+    key: [u8; 16],
+    fed: Vec<u8>,
+    feeding: bool,
+    open: bool,
+    drawn: usize,
+}
+
+/// The most that may be drawn, by mode.
+const MOST_DRAWN: [usize; 5] = [0, 1_048_576, 16, 32, 1_048_576];
+
+/// A script under way, and how its day goes.
+struct Day<'a> {
+    numbers: &'a mut Numbers,
+    text: Vec<u8>,
+    tickets: Vec<Ticket>,
+    /// One argument in so many is meant to be wrong.
+    wrong: usize,
+    /// The most bytes that a feed has.
+    feed: usize,
+    /// How often each call is made: open, feed, draw, check, close, sum.
+    weights: [usize; 6],
+}
+
+/// A script of so many lines of values.
+pub fn day(numbers: &mut Numbers, lines: usize) -> Vec<u8> {
+    let mut day = Day::begin(numbers);
+    day.calls(lines);
+    day.end()
+}
+
+/// A script that begins with a ticket close to its limit, of 1,048,576 bytes drawn.
+fn day_after_draws(numbers: &mut Numbers, lines: usize) -> Vec<u8> {
+    let mut day = Day::begin(numbers);
+    day.line("open", 4, "-");
+    for _ in 0..1_022 {
+        day.line("draw", 1, "0400");
+    }
+    let mut ticket = Ticket::new(4, [0; 16]);
+    ticket.feeding = false;
+    ticket.drawn = 1_022 * 1_024;
+    day.tickets.push(ticket);
+    day.calls(lines);
+    day.end()
+}
+
+/// A script that begins with a ticket close to its limit, of 16,777,216 bytes fed.
+fn day_after_feeds(numbers: &mut Numbers, lines: usize) -> Vec<u8> {
+    let mut day = Day::begin(numbers);
+    day.line_of_bytes("open", 1, &[0; 16]);
+    for _ in 0..16_383 {
+        day.line_of_bytes("feed", 1, &[0xa5; 1_024]);
+    }
+    day.tickets.push(Ticket::new(1, [0; 16]));
+    day.calls(lines);
+    day.end()
+}
+
+impl Ticket {
+    fn new(mode: usize, key: [u8; 16]) -> Ticket {
+        Ticket {
+            mode,
+            key,
+            fed: Vec::new(),
+            feeding: true,
+            open: true,
+            drawn: 0,
+        }
+    }
+}
+
+impl Day<'_> {
+    fn begin(numbers: &mut Numbers) -> Day<'_> {
+        Day {
+            text: b"call number bytes\n".to_vec(),
+            tickets: Vec::new(),
+            wrong: numbers.pick(&[3, 10, 30, 100_000]),
+            feed: numbers.pick(&[4, 40, 40, 200, 1_024]),
+            weights: [20, 40, 20, 15, 10, 5].map(|w| w * numbers.pick(&[1, 1, 2, 4]) / 2),
+            numbers,
+        }
+    }
+
+    fn calls(&mut self, times: usize) {
+        for _ in 0..times {
+            self.call();
+        }
+    }
+
+    /// The last newline may be missing.
+    fn end(mut self) -> Vec<u8> {
+        if self.numbers.one_in(4) {
+            self.text.pop();
+        }
+        self.text
+    }
+
+    fn line(&mut self, name: &str, number: usize, field: &str) {
+        self.text
+            .extend(format!("{name} {number} {field}\n").bytes());
+    }
+
+    fn line_of_bytes(&mut self, name: &str, number: usize, bytes: &[u8]) {
+        let field = if bytes.is_empty() {
+            "-".to_string()
+        } else {
+            hex(bytes)
+        };
+        self.line(name, number, &field);
+    }
+
+    fn is_wrong(&mut self) -> bool {
+        self.numbers.one_in(self.wrong)
+    }
+
+    fn call(&mut self) {
+        let mut which = self.numbers.below(self.weights.iter().sum());
+        let mut call = 0;
+        while which >= self.weights[call] {
+            which -= self.weights[call];
+            call += 1;
+        }
+        match call {
+            0 => self.open(),
+            1 => self.feed(),
+            2 => self.draw(),
+            3 => self.check(),
+            4 => self.close(),
+            _ => self.line("sum", 0, "-"),
+        }
+    }
+
+    fn open(&mut self) {
+        let mut mode = self.numbers.between(1, 4);
+        let mut key = self.numbers.bytes(if mode < 3 { 16 } else { 0 });
+        if self.is_wrong() {
+            let length = self.numbers.pick(&[0, 1, 8, 15, 16, 17, 32, 1_024]);
+            key = self.numbers.bytes(length);
+        }
+        if self.is_wrong() {
+            mode = self.numbers.pick(&[0, 5, 257, 65_537, 4_294_967_295]);
+        }
+        self.line_of_bytes("open", mode, &key);
+        let open = self.tickets.iter().filter(|t| t.open).count();
+        let length = match mode {
+            1 | 2 => 16,
+            3 | 4 => 0,
+            _ => return,
+        };
+        if key.len() == length && open < 16 {
+            key.resize(16, 0);
+            self.tickets
+                .push(Ticket::new(mode, key.try_into().unwrap()));
+        }
+    }
+
+    /// The number of a ticket, as a rule of an open one; of those, one that is wanted, if there is any.
+    fn ticket(&mut self, wanted: impl Fn(&Ticket) -> bool) -> usize {
+        let issued = self.tickets.len();
+        if self.is_wrong() {
+            let any = self.numbers.below(issued + 1);
+            let past = [0, issued + 1, issued + 2, 4_294_967_295, any, any];
+            return self.numbers.pick(&past);
+        }
+        let open = |wanted: &dyn Fn(&Ticket) -> bool| -> Vec<usize> {
+            let numbered = self.tickets.iter().zip(1..);
+            let open = numbered.filter(|(t, _)| t.open && wanted(t));
+            open.map(|(_, number)| number).collect()
+        };
+        let (best, all) = (open(&wanted), open(&|_| true));
+        if !best.is_empty() && !self.numbers.one_in(6) {
+            self.numbers.pick(&best)
+        } else if !all.is_empty() {
+            self.numbers.pick(&all)
+        } else {
+            self.numbers.below(issued + 2)
+        }
+    }
+
+    /// The ticket of a number, if it is open.
+    fn known(&mut self, number: usize) -> Option<&mut Ticket> {
+        let ticket = self.tickets.get_mut(number.checked_sub(1)?)?;
+        ticket.open.then_some(ticket)
+    }
+
+    fn feed(&mut self) {
+        let number = self.ticket(|t| t.feeding);
+        let any = self.numbers.below(self.feed + 1);
+        let length = self.numbers.pick(&[0, 1, 7, 8, 9, 31, 32, 33, any, any]);
+        let bytes = self.numbers.bytes(length.min(self.feed));
+        self.line_of_bytes("feed", number, &bytes);
+        if let Some(ticket) = self.known(number) {
+            if ticket.feeding {
+                ticket.fed.extend(bytes);
+            }
+        }
+    }
+
+    fn draw(&mut self) {
+        let late = self.numbers.one_in(2);
+        let number = self.ticket(|t| !late || !t.feeding);
+        let left = self
+            .known(number)
+            .map_or(0, |t| MOST_DRAWN[t.mode] - t.drawn);
+        let any = self.numbers.below(1_025);
+        let few = self.numbers.below(40);
+        let count = match self.numbers.below(20) {
+            0..=5 => self.numbers.pick(&[0, 1, 7, 8, 9, 15, 16, 17, 31, 32, 33]),
+            6..=12 => few,
+            13 => any,
+            14 => left,
+            15 => left + 1,
+            _ => self.numbers.below(left.min(64) + 1),
+        };
+        let count = count.min(1_024);
+        self.line("draw", number, &format!("{count:04x}"));
+        if let Some(ticket) = self.known(number) {
+            if ticket.drawn + count <= MOST_DRAWN[ticket.mode] {
+                ticket.feeding = false;
+                ticket.drawn += count;
+            }
+        }
+    }
+
+    fn check(&mut self) {
+        let number = self.ticket(|t| t.mode == 2 && t.fed.len() < 20_000);
+        let mut tag = match self.known(number) {
+            Some(ticket) if ticket.mode == 2 => reference::mac(&ticket.key, &ticket.fed),
+            _ => self.numbers.bytes(16),
+        };
+        tag.truncate(self.numbers.between(8, 16));
+        if self.numbers.one_in(3) {
+            let bit = self.numbers.below(8 * tag.len());
+            tag[bit / 8] ^= 1 << (bit % 8);
+        }
+        if self.is_wrong() {
+            tag.resize(self.numbers.pick(&[0, 1, 7, 17, 32, 1_024]), 0);
+        }
+        self.line_of_bytes("check", number, &tag);
+        if let Some(ticket) = self.known(number) {
+            if ticket.mode == 2 && (8..=16).contains(&tag.len()) {
+                ticket.feeding = false;
+            }
+        }
+    }
+
+    fn close(&mut self) {
+        let number = self.ticket(|_| true);
+        self.line("close", number, "-");
+        if let Some(ticket) = self.known(number) {
+            ticket.open = false;
+        }
+    }
+}
+
+/// A script damaged in one place.
+pub fn damage(numbers: &mut Numbers, script: &mut Vec<u8>) {
+    if script.is_empty() {
+        return;
+    }
+    let at = numbers.below(script.len());
+    let byte = match numbers.below(3) {
+        0 => numbers.bytes(1)[0],
+        _ => numbers.pick(b"0123456789abcdefg -\n\n \r\t+AF/:@`"),
+    };
+    match numbers.below(12) {
+        0 | 1 => script[at] = byte,
+        2 => script[at] ^= 1 << numbers.below(8),
+        3 => script.insert(at, byte),
+        4 => drop(script.remove(at)),
+        5 => script.truncate(at),
+        6 => script.insert(at, script[at]),
+        7 => {
+            // A digit more in the middle of a field, or very many.
+            let times = numbers.pick(&[1, 2, 20, 2_100, 70_000]);
+            let digit = numbers.pick(b"01af");
+            script.splice(at..at, std::iter::repeat_n(digit, times));
+        }
+        _ => damage_lines(numbers, script),
+    }
+}
+
+/// Lines are doubled, exchanged, moved, left out, joined or made empty.
+fn damage_lines(numbers: &mut Numbers, script: &mut Vec<u8>) {
+    let text = script.split_inclusive(|byte| *byte == b'\n');
+    let mut lines: Vec<Vec<u8>> = text.map(<[u8]>::to_vec).collect();
+    // As a rule the line of names stays.
+    let first = usize::from(lines.len() > 1 && !numbers.one_in(20));
+    let a = numbers.between(first, lines.len() - 1);
+    let b = numbers.between(first, lines.len() - 1);
+    match numbers.below(8) {
+        0 => lines.insert(a, lines[b].clone()),
+        1 | 2 => lines.swap(a, b),
+        3 => {
+            let line = lines.remove(a);
+            lines.insert(b.min(lines.len()), line);
+        }
+        4 => drop(lines.remove(a)),
+        5 => drop(lines[a].pop()),
+        6 => lines.insert(a, b"\n".to_vec()),
+        _ => {
+            // One field of a line in place of the same field of another.
+            let field = numbers.below(3);
+            let of = |line: &[u8]| -> Vec<Vec<u8>> {
+                line.split(|byte| *byte == b' ')
+                    .map(<[u8]>::to_vec)
+                    .collect()
+            };
+            let (mut into, from) = (of(&lines[a]), of(&lines[b]));
+            if let (Some(into), Some(from)) = (into.get_mut(field), from.get(field)) {
+                into.clone_from(from);
+            }
+            lines[a] = into.join(&b' ');
+        }
+    }
+    *script = lines.concat();
+}
+
+/// A script of random length, whole or damaged.
+pub fn script(numbers: &mut Numbers) -> Vec<u8> {
+    let lines = match numbers.below(20) {
+        0..=7 => numbers.between(0, 10),
+        8..=14 => numbers.between(10, 60),
+        15..=18 => numbers.between(60, 400),
+        _ => numbers.between(400, 3_000),
+    };
+    let mut script = match numbers.below(5_000) {
+        0 => day_after_feeds(numbers, lines.min(60)),
+        1..=5 => day_after_draws(numbers, lines),
+        _ => day(numbers, lines),
+    };
+    if numbers.one_in(2) {
+        for _ in 0..numbers.between(1, 3) {
+            damage(numbers, &mut script);
+        }
+    }
+    script
+}

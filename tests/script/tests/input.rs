@@ -1,0 +1,323 @@
+//! How input comes and output goes: in pieces, across the cuts between reads, in turns, and with errors.
+use script::random::{day, Numbers};
+use script::{assert_same, ends, from_a_file, in_time, printed, program, start, through_a_pipe};
+use std::fs::{File, OpenOptions};
+use std::io::{BufRead, BufReader, Read, Write};
+use std::os::fd::OwnedFd;
+use std::os::unix::net::UnixStream;
+use std::process::{Command, Stdio};
+use std::thread::sleep;
+use std::time::Duration;
+
+/// What one read asks for at most.
+const CHUNK: usize = 65_536;
+
+const NAMES: &[u8] = b"call number bytes\n";
+
+/// A script from a file, where the cuts are at multiples of the chunk, and through a pipe, where they lie anywhere.
+fn assert_both(script: &[u8]) {
+    let expected = reference::script::run(script);
+    assert_same(script, &from_a_file(&program(), script), &expected);
+    assert_same(script, &through_a_pipe(&program(), script), &expected);
+}
+
+/// Lines of one length over more than three chunks, moved on by 11 bytes for each of so many refused lines.
+fn moved(line: &str, refused: usize) -> Vec<u8> {
+    let times = 3 * CHUNK / line.len() + 10;
+    let opens = "open 3 -\nopen 4 -\n";
+    [
+        NAMES,
+        opens.as_bytes(),
+        "close 99 -\n".repeat(refused).as_bytes(),
+        line.repeat(times).as_bytes(),
+    ]
+    .concat()
+}
+
+/// 11 and the length of the line have no common divisor, so every place in the line comes to lie at the cut.
+#[test]
+fn lines_across_every_cut() {
+    let line = "feed 2 00112233445566778899aabbccddeeff00112233445566778899aabbccddeeff\n";
+    assert_eq!(line.len(), 72);
+    for refused in 0..72 {
+        assert_both(&moved(line, refused));
+    }
+    let line = "sum 0 -\n";
+    for refused in 0..8 {
+        assert_both(&moved(line, refused));
+    }
+}
+
+/// Lines of the longest kind, and a malformed one after them.
+#[test]
+fn long_lines_across_the_cuts() {
+    let line = format!("feed 1 {}\n", "c3".repeat(1_024));
+    for refused in (0..180).step_by(13) {
+        let mut script = moved(&line, refused);
+        assert_both(&script);
+        script.extend(b"feed 1 c\n");
+        assert_both(&script);
+    }
+}
+
+/// A script of so many bytes, the last of them a newline.
+fn filled(size: usize) -> Vec<u8> {
+    let left = size - NAMES.len();
+    // Lines of 8 and of 9 bytes.
+    let nines = left % 8;
+    let eights = (left - 9 * nines) / 8;
+    let script = [
+        NAMES,
+        "sum 0 -\n".repeat(eights).as_bytes(),
+        "feed 1 -\n".repeat(nines).as_bytes(),
+    ]
+    .concat();
+    assert_eq!(script.len(), size);
+    script
+}
+
+#[test]
+fn ends_at_a_cut() {
+    for chunks in 1..=3 {
+        for size in chunks * CHUNK - 10..=chunks * CHUNK + 10 {
+            let script = filled(size);
+            assert_both(&script);
+            assert_both(&script[..size - 1]);
+            assert_both(&[&script[..], b"\n"].concat());
+        }
+    }
+}
+
+/// An overlong line that begins or ends at a cut, or fills a chunk.
+#[test]
+fn overlong_lines_at_a_cut() {
+    for before in [CHUNK - 2_101, CHUNK - 2_100, CHUNK - 1, CHUNK, CHUNK + 1] {
+        for length in [2_065, 2_066, 2_100, 2_101, CHUNK - 1, CHUNK, CHUNK + 1] {
+            let mut script = filled(before);
+            script.extend(std::iter::repeat_n(b'0', length));
+            assert_both(&script);
+            script.extend(b"\nsum 0 -\n");
+            assert_both(&script);
+        }
+    }
+}
+
+#[test]
+fn output_longer_than_a_buffer() {
+    let mut script = [
+        NAMES,
+        b"open 4 -\nopen 1 000102030405060708090a0b0c0d0e0f\n",
+    ]
+    .concat();
+    for i in 0..600 {
+        script.extend(format!("draw {} 0400\n", 1 + i % 2).bytes());
+    }
+    assert_both(&script);
+    // Answers of many lengths, so that the buffer is full at many places of a line.
+    for count in [1, 2, 3, 5, 8, 100, 1_000, 1_021] {
+        let mut script = [NAMES, b"open 4 -\n"].concat();
+        let lines = format!("draw 1 {count:04x}\nsum 0 -\n").repeat(300_000 / (2 * count + 20));
+        script.extend(lines.bytes());
+        assert_both(&script);
+    }
+}
+
+/// What is printed for a script that is written in pieces of given lengths, with a pause after each.
+fn in_pieces(
+    script: &[u8],
+    pause: Duration,
+    mut length: impl FnMut() -> usize + Send + 'static,
+) -> Vec<u8> {
+    let script = script.to_vec();
+    printed(start(&program(), Stdio::piped()), move |stdin| {
+        let mut rest = &script[..];
+        while !rest.is_empty() {
+            let (piece, after) = rest.split_at(length().min(rest.len()));
+            if stdin.write_all(piece).is_err() {
+                return;
+            }
+            sleep(pause);
+            rest = after;
+        }
+    })
+}
+
+#[test]
+fn byte_by_byte() {
+    let whole = "call number bytes\nopen 3 -\nfeed 1 0102030405060708\ndraw 1 0003\nsum 0 -\n";
+    let scripts = [
+        whole.to_string(),
+        whole.trim_end().to_string(),
+        format!("{whole}\n"),
+        format!("{whole}sum 0\nsum 0 -\n"),
+        "call number byte\nsum 0 -\n".to_string(),
+    ];
+    for script in scripts {
+        let script = script.as_bytes();
+        let all = in_pieces(script, Duration::from_micros(200), || 1);
+        assert_same(script, &all, &reference::script::run(script));
+    }
+}
+
+#[test]
+fn in_odd_pieces() {
+    for seed in 0..6 {
+        let mut numbers = Numbers(seed);
+        let script = day(&mut numbers, 1_000);
+        let expected = reference::script::run(&script);
+        let most = [30, 300, 3_000][seed as usize % 3];
+        let all = in_pieces(&script, Duration::from_micros(20), move || {
+            numbers.between(1, most)
+        });
+        assert_same(&script, &all, &expected);
+    }
+}
+
+/// Each answer is read before the next line is written, and after a malformed line the program ends though its input stays open.
+#[test]
+fn in_turns() {
+    let turns = [
+        ("call number bytes\n", vec!["answer number bytes"]),
+        ("open 2 000102030405060708090a0b0c0d0e0f\n", vec!["ok 1 -"]),
+        (
+            "check 1 eb1af688825d66bf2d53e135f9323315\n",
+            vec!["pass 2 -"],
+        ),
+        ("sum 0 -\nsum 0 -\nsu", vec!["ok 2 -", "ok 2 -"]),
+        ("m 0 -\nclose 1 ", vec!["ok 2 -"]),
+        ("-", vec![]),
+        ("\n", vec!["ok 2 -"]),
+        ("draw 1 0001\n", vec!["no 12 -"]),
+        ("close 1\n", vec!["stop 9 -"]),
+    ];
+    let mut child = start(&program(), Stdio::piped());
+    let mut stdin = child.stdin.take().unwrap();
+    let mut lines = BufReader::new(child.stdout.take().unwrap()).lines();
+    let stdin = in_time(&mut child, move || {
+        for (written, answers) in turns {
+            stdin.write_all(written.as_bytes()).unwrap();
+            for answer in answers {
+                assert_eq!(lines.next().expect("an answer").unwrap(), answer);
+            }
+        }
+        assert!(lines.next().is_none());
+        stdin
+    });
+    ends(&mut child);
+    drop(stdin);
+}
+
+/// A script whose output is larger than any buffer.
+fn long_script() -> Vec<u8> {
+    [NAMES, "sum 0 -\n".repeat(100_000).as_bytes()].concat()
+}
+
+/// Writes all of a script that may not be read to its end.
+fn write(script: Vec<u8>) -> impl FnOnce(&mut dyn Write) + Send + 'static {
+    move |stdin| {
+        let _ = stdin.write_all(&script);
+    }
+}
+
+/// Starts the program by a line of the shell, in which it is "$0".
+fn by_shell(line: &str) -> Command {
+    let mut command = Command::new("sh");
+    command.arg("-c").arg(line).arg(program());
+    command
+}
+
+#[test]
+fn output_that_is_full() {
+    for script in [NAMES.to_vec(), b"x".to_vec(), Vec::new(), long_script()] {
+        let full = OpenOptions::new().write(true).open("/dev/full").unwrap();
+        let mut command = Command::new(program());
+        let child = command.stdin(Stdio::piped()).stdout(full).spawn().unwrap();
+        assert!(printed(child, write(script)).is_empty());
+    }
+}
+
+#[test]
+fn output_that_is_closed() {
+    for script in [NAMES.to_vec(), b"x".to_vec(), Vec::new(), long_script()] {
+        let mut command = by_shell("exec \"$0\" >&-");
+        let child = command.stdin(Stdio::piped()).spawn().unwrap();
+        assert!(printed(child, write(script)).is_empty());
+    }
+}
+
+/// The reader goes away after the first answers; a broken pipe ends the program by a signal, or by an error where the signal is ignored.
+#[test]
+fn output_that_nobody_reads() {
+    for line in ["exec \"$0\"", "trap '' PIPE; exec \"$0\""] {
+        let mut command = by_shell(line);
+        let mut child = command
+            .stdin(Stdio::piped())
+            .stdout(Stdio::piped())
+            .spawn()
+            .unwrap();
+        let mut stdout = child.stdout.take().unwrap();
+        let mut stdin = child.stdin.take().unwrap();
+        let stdin = in_time(&mut child, move || {
+            let mut first = [0; 20];
+            stdin.write_all(NAMES).unwrap();
+            stdout.read_exact(&mut first).expect("the first line");
+            assert_eq!(&first, b"answer number bytes\n");
+            stdin
+        });
+        child.stdin = Some(stdin);
+        printed(child, write(long_script()));
+    }
+}
+
+#[test]
+fn input_that_is_closed() {
+    let mut command = by_shell("exec \"$0\" <&-");
+    let child = command.stdout(Stdio::piped()).spawn().unwrap();
+    assert_eq!(printed(child, |_| ()), b"answer number bytes\n");
+}
+
+#[test]
+fn input_that_is_a_folder() {
+    let child = start(&program(), File::open("/").unwrap().into());
+    assert_eq!(printed(child, |_| ()), b"answer number bytes\n");
+}
+
+#[test]
+fn no_input() {
+    let child = start(&program(), Stdio::null());
+    assert_eq!(printed(child, |_| ()), b"answer number bytes\nstop 1 -\n");
+}
+
+/// What is printed where reading fails after a script: a socket whose other end is closed with a byte unread is reset.
+fn with_a_failed_read(script: &[u8]) -> Vec<u8> {
+    let (mut ours, theirs) = UnixStream::pair().unwrap();
+    (&theirs).write_all(b"x").unwrap();
+    ours.write_all(script).unwrap();
+    drop(ours);
+    printed(start(&program(), OwnedFd::from(theirs).into()), |_| ())
+}
+
+/// A line that was cut off by an error is not run, and no line number is told; all before it was answered.
+#[test]
+fn input_that_fails() {
+    let cases = [
+        ("", ""),
+        ("call number bytes", ""),
+        ("call number bytes\n", ""),
+        ("call number bytes\nopen 3 -\nsum 0 -\n", "ok 1 -\nok 1 -\n"),
+        ("call number bytes\nopen 3 -\nsum 0 -", "ok 1 -\n"),
+        ("call number bytes\nopen 3 -\nsum 0", "ok 1 -\n"),
+        (
+            "call number bytes\nopen 3 -\nsum\nsum 0 -",
+            "ok 1 -\nstop 3 -\n",
+        ),
+    ];
+    for (script, rest) in cases {
+        let expected = format!("answer number bytes\n{rest}");
+        assert_same(
+            script.as_bytes(),
+            &with_a_failed_read(script.as_bytes()),
+            expected.as_bytes(),
+        );
+    }
+}
