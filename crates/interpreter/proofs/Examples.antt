@@ -2,15 +2,27 @@
 -- them changes one of these.
 -- Assumes nothing.
 use mathlib.Core.Path.{_≡_, refl}
-use mathlib.Core.List.{List, _++_}
+use mathlib.Core.Bool.{Bool, true, false}
+use mathlib.Core.List.{List, [], _∷_}
 use Prim.Native.Nat.{ℕ}
 use Prim.Native.String.{String}
-use lib.ListN.{replicate}
 use Rattle.mode.specs.Mode.{row, named}
 use Rattle.sponge.specs.Sponge.{ceiling, start, oneShot, output as spongeOutput, squeezeBytes, runsFeeding, runsEnded}
 use Rattle.checks.specs.Buffers.{written}
 use Rattle.calls.specs.Checks.{openChecks, ticketChecks, feedOwn, feedChecks, drawOwn, drawChecks, checkOwn, checkChecks}
-use Rattle.calls.specs.Call.{events}
+use Rattle.calls.specs.declared.Answer.{Answer}
+use Rattle.calls.specs.Call.{
+  Call,
+  Open as openCall,
+  Feed as feedCall,
+  Draw as drawCall,
+  Check as checkCall,
+  Close as closeCall,
+  Sum as sumCall,
+  events,
+}
+use Rattle.script.specs.declared.line.Verb.{Verb}
+use Rattle.script.specs.declared.line.Verb.the-variants.{Open, Feed, Draw, Check, Close, Sum}
 use Rattle.calls.specs.Keyed.{find, total}
 use Rattle.calls.specs.Machine.{
   emptyMachine,
@@ -41,7 +53,47 @@ use Rattle.script.specs.Hex.{nibble, glyph, hexPairs, decoded, hexOf, bytesText
 use Rattle.script.specs.Line.{verbOf, isDash, isHex, bytesOf, noBytesOf, countValue, isCount, countOf, fieldOf, fields, parse}
 use Rattle.script.specs.Answer.{answerLine}
 use Rattle.script.specs.Input.{lines}
-use Rattle.interpreter.specs.Script.{callOf, wordFor, numberFor, bytesFor, answered, answers, meaning, scriptFrom, scriptOf, printedOf, output}
+use Rattle.interpreter.specs.Script.{callOf, wordFor, numberFor, bytesFor, answered, answers, aCall, aFault, meaning, scriptFrom, scriptOf, printedOf, output}
+
+-- ---- one call
+
+-- an accepted answer with another number in each field
+abbrev accepting : Bool → Answer
+accepting passed = record { refusal = 0; ticket = 7; runs = 5; passed = passed; sum = 9 }
+
+-- and a refused one
+abbrev refusing : Answer
+refusing = record { refusal = 17; ticket = 7; runs = 5; passed = true; sum = 9 }
+
+-- the line that is printed of an answer to this call, with the bytes 1 and 255 in the buffer
+abbrev Shows : Verb → Answer → String → Type 0
+Shows v a line = answered v a (1 ∷ 255 ∷ []) ≡ text line
+
+pub shown-answers :
+    Shows Open (accepting true) "ok 7 -\n" × Shows Feed (accepting true) "ok 5 -\n" × Shows Draw (accepting true) "ok 5 01ff\n"
+    × Shows Check (accepting true) "pass 5 -\n" × Shows Check (accepting false) "fail 5 -\n"
+    × Shows Close (accepting true) "ok 5 -\n" × Shows Sum (accepting true) "ok 9 -\n"
+    × Shows Open refusing "no 17 -\n" × Shows Feed refusing "no 17 -\n" × Shows Draw refusing "no 17 -\n"
+    × Shows Check refusing "no 17 -\n" × Shows Close refusing "no 17 -\n" × Shows Sum refusing "no 17 -\n"
+unfolding answered wordFor numberFor bytesFor answerLine spelled decimal glyph hexOf bytesText
+shown-answers = (refl, refl, refl, refl, refl, refl, refl, refl, refl, refl, refl, refl, refl)
+
+-- this line, as line 2, means that call
+abbrev Means : String → Call → Type 0
+Means line c = meaning 2 (text line) ≡ aCall c
+
+pub meant-calls :
+    Means "open 3 0a" (openCall 3 (10 ∷ [])) × Means "feed 4 -" (feedCall 4 []) × Means "draw 5 0003" (drawCall 5 (0 ∷ 0 ∷ 0 ∷ []) 0 3)
+    × Means "check 6 0bff" (checkCall 6 (11 ∷ 255 ∷ [])) × Means "close 7 -" (closeCall 7) × Means "sum 0 -" sumCall
+unfolding meaning callOf parse fields fieldOf countOf isCount countValue noBytesOf bytesOf isHex isDash verbOf same before after isDigit allDigits plainStart valueFrom isNumber numberOf nibble hexPairs decoded
+meant-calls = (refl, refl, refl, refl, refl, refl)
+
+-- the last allowed line, and one after it
+pub last-lines : (meaning 1000000 (text "sum 0 -") ≡ aCall sumCall) × (meaning 1000001 (text "sum 0 -") ≡ aFault)
+unfolding meaning callOf parse fields fieldOf noBytesOf isDash verbOf same before after isDigit allDigits plainStart valueFrom isNumber numberOf
+last-lines = (refl, refl)
+
+-- ---- whole scripts
 
 -- this script prints that
 abbrev Prints : String → String → Type 0
@@ -51,6 +103,9 @@ pub examples :
     -- document 01's
     Prints "call number bytes\nopen 3 -\nfeed 1 0102030405060708\ndraw 1 0000\nclose 1 -\nfeed 1 09\nsum 0 -\n"
     "answer number bytes\nok 1 -\nok 2 -\nok 3 -\nok 3 -\nno 12 -\nok 3 -\n"
+    -- tickets are numbered, and their counts are their own
+    × Prints "call number bytes\nopen 4 -\nopen 3 -\nfeed 2 00112233445566778899\nfeed 1 -\nsum 0 -\n"
+    "answer number bytes\nok 1 -\nok 2 -\nok 2 -\nok 1 -\nok 3 -\n"
     -- the last newline may be missing
     × Prints "call number bytes\nopen 4 -\nsum 0 -" "answer number bytes\nok 1 -\nok 1 -\n"
     -- the names alone, with and without theirs
@@ -70,4 +125,4 @@ pub examples :
     × Prints "call number bytes\ndraw 1 0002\nopen 0 -\nopen 1 00\nopen 3 -\ncheck 1 0011223344556677\nclose 2 -\ndraw 1 0021\n"
     "answer number bytes\nno 11 -\nno 1 -\nno 2 -\nok 1 -\nno 18 -\nno 11 -\nno 17 -\n"
 unfolding output printedOf scriptOf scriptFrom meaning answers answered wordFor numberFor bytesFor callOf lines answerLine parse fields fieldOf countOf isCount countValue noBytesOf bytesOf isHex isDash verbOf same before after isDigit allDigits plainStart valueFrom isNumber numberOf spelled decimal nibble glyph hexPairs decoded hexOf bytesText events machine emptyMachine openMachine openChecks named row admit newEntry runsOf formula runsFeeding runsEnded ceiling start openCount total feedMachine drawMachine checkMachine closeMachine ticketChecks feedChecks feedOwn drawChecks drawOwn checkChecks checkOwn standingOf entryOf placeOf find afterFeed afterDraw afterClose put sumMachine outputOf written oneShot spongeOutput squeezeBytes
-examples = (refl, refl, refl, refl, refl, refl, refl, refl, refl, refl, refl, refl, refl)
+examples = (refl, refl, refl, refl, refl, refl, refl, refl, refl, refl, refl, refl, refl, refl)

@@ -100,7 +100,7 @@ shown-short h s l e =
 
 answered-short : (v : Verb) (a : Answer) (buffer : List ℕ) → length (bytesFor v a buffer) ≤ mostBytes → length (answered v a buffer) ≤ longestAnswer
 unfolding answered
-answered-short v a buffer h = answer-long (wordFor v a) (numberFor v a) (bytesFor v a buffer) h
+answered-short v a buffer h = omega (arith, answer-long (wordFor v a) (numberFor v a) (bytesFor v a buffer) h)
 
 pub step-short : (s : Session) (line : List ℕ) → length (stepped s line .text) ≤ longestAnswer
 unfolding stepped meaning

@@ -34,5 +34,5 @@ scripts =
       cut = cut;
       plain = plain;
       parts = filled-parts;
-      turns = λ line chunks h n e. turns-enough line chunks n e;
+      turns = turns-enough;
     }

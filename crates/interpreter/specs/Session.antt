@@ -54,7 +54,7 @@ stepped s line = stepBy s (meaning (s .number) line)
 
 -- ---- a byte
 
--- the same session with its line buffer
+-- a session and its line buffer
 pub record Reader : Type 0 where
   pub session : Session
   pub line : List ℕ
@@ -70,7 +70,7 @@ pub record Fed : Type 0 where
 abbrev pub silent : Reader → Fed
 silent r = record { reader = r; text = [] }
 
--- the line goes into the session; the buffer keeps its bytes
+-- the session after a line; the buffer keeps its bytes
 abbrev pub afterStep : Reader → LineStep → Fed
 afterStep r s = record { reader = record { session = s .session; line = r .line }; text = s .text }
 

@@ -52,5 +52,5 @@ pub record Scripts : Type 0 where
   -- a chunk whose answers do not fit into a buffer is taken in parts
   pub parts : (size : ℕ) (r : Reader) (text chunk : List ℕ) → Taking r text chunk (filled size r text chunk)
   -- a program that reads a byte at least in each turn makes no more than so many turns before the script has stopped or its input has ended
-  pub turns : (line : List ℕ) (chunks : List (List ℕ)) → length line ≡ longestLine → NotEmpty chunks
+  pub turns : (line : List ℕ) (chunks : List (List ℕ)) → NotEmpty chunks
       → fedAll (atFirst line) chunks .reader .session .going ≡ true → length chunks ≤ mostInput
