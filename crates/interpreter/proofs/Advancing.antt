@@ -3,20 +3,19 @@
 use mathlib.Core.Path.{_≡_, refl, sym, ap, _∙_}
 use mathlib.Core.Bool.{true, false}
 use mathlib.Core.List.{List, [], _∷_, _++_, append-nil}
-use Prim.Native.Nat.{ℕ, suc, _+_, _-_, _≤_, _<_, min}
+use Prim.Native.Nat.{ℕ, _+_, _-_, _≤_, _<_, min}
 use native.Mathlib.Numerals.{add-one}
 use native.Mathlib.Omega.{arith}
 use native.Mathlib.Decide.{decLe}
-use lib.ListN.{length, getD, take, drop, length-take}
+use lib.ListN.{length, getD, take, drop}
 use lib.Seq.{sets, length-sets, drop-length, drop-cons, take-all}
-use Rattle.script.specs.Text.{Wrote, newline}
+use Rattle.script.specs.Text.{newline}
 use Rattle.script.specs.Line.{longestLine}
 use Rattle.script.specs.Input.{piece}
 use Rattle.script.proofs.Texts.{wrote-none}
 use Rattle.script.proofs.Pieces.{piece-room, piece-left, piece-clean, piece-end}
 use Rattle.script.proofs.Answers.{answer-long}
 use Rattle.interpreter.specs.declared.Session.{Session}
-use Rattle.interpreter.specs.declared.Progress.{Progress}
 use Rattle.interpreter.specs.declared.line.Stepped.{Stepped}
 use Rattle.interpreter.specs.Script.{Meaning, theNames, aCall, aFault, meaning}
 use Rattle.interpreter.specs.Session.{stopped, stepBy, stepped, Reader, readerOf, Fed, afterStep, holding, byteStep, longestAnswer, filled}

@@ -1,17 +1,18 @@
 -- The beginning and the end of a script.
 -- Assumes nothing.
-use mathlib.Core.Path.{_≡_, refl, sym, ap, _∙_}
+use mathlib.Core.Path.{_≡_, refl, ap, _∙_}
 use mathlib.Core.Bool.{true, false}
-use mathlib.Core.List.{List, [], _∷_, _++_, append-nil}
-use Prim.Native.Nat.{ℕ, _+_, _≤_}
+use mathlib.Core.List.{List, [], _∷_, append-nil}
+use Prim.Native.Nat.{ℕ, _≤_}
 use native.Mathlib.Omega.{arith}
-use lib.ListN.{length, drop}
+use lib.ListN.{length}
 use lib.Seq.{sets-eq}
 use Rattle.checks.specs.Buffers.{written}
 use Rattle.script.specs.Text.{Wrote, newline}
 use Rattle.interpreter.specs.declared.Session.{Session}
 use Rattle.interpreter.specs.declared.Progress.{Progress}
-use Rattle.interpreter.specs.Session.{Reader, readerOf, Fed, silent, byteStep, fed, complete, finished, Filled, filled, outputSize, filledFrom, progressOf}
+use Rattle.interpreter.specs.declared.line.Stepped.{Stepped}
+use Rattle.interpreter.specs.Session.{readerOf, Fed, byteStep, fed, complete, finished, endOf, Filled, filled, filledFrom, progressOf}
 
 -- ---- the beginning
 
@@ -27,10 +28,10 @@ module _ (s : Session) (line out : List ℕ) where
   end = finished (readerOf s line)
 
   -- what `finish` promises
-  abbrev pub Finishing : ℕ → List ℕ → List ℕ → Type 0
-  Finishing size line′ out′ = (size ≡ length (end .text)) × ((line′ ≡ end .reader .line) × (out′ ≡ written out 0 (end .text)))
+  abbrev pub Finishing : Stepped → List ℕ → List ℕ → Type 0
+  Finishing r line′ out′ = (r ≡ endOf end) × ((line′ ≡ end .reader .line) × (out′ ≡ written out 0 (end .text)))
 
-  pub finish-complete : complete s ≡ true → Finishing 0 line out
+  pub finish-complete : complete s ≡ true → Finishing (record { session = s; size = 0 }) line out
   unfolding finished written
   finish-complete e = rw e (refl, (refl, refl))
 
@@ -39,11 +40,15 @@ module _ (s : Session) (line out : List ℕ) where
   unfolding finished filledFrom filled fed
   supplied e = rw (e, append-nil (byteStep (readerOf s line) newline .text))
 
+  stepOf : Progress → Stepped
+  stepOf x = record { session = x .session; size = x .size }
+
   pub finish-supplied : (r : Progress) (line′ out′ : List ℕ) → complete s ≡ false
       → r ≡ progressOf (newline ∷ []) (filledFrom s line (newline ∷ []) 0)
       → line′ ≡ filledFrom s line (newline ∷ []) 0 .reader .line
       → out′ ≡ written out 0 (filledFrom s line (newline ∷ []) 0 .text)
-      → Finishing (r .size) line′ out′
+      → Finishing (record { session = r .session; size = r .size }) line′ out′
+  unfolding stepOf
   finish-supplied r line′ out′ e p q t =
       let f = supplied e in
-      (ap (λ (x : Progress). x .size) p ∙ ap (λ (x : Filled). length (x .text)) f, (q ∙ ap (λ (x : Filled). x .reader .line) f, t ∙ ap (λ (x : Filled). written out 0 (x .text)) f))
+      (ap (λ (x : Progress). stepOf x) p ∙ ap (λ (x : Filled). stepOf (progressOf (newline ∷ []) x)) f, (q ∙ ap (λ (x : Filled). x .reader .line) f, t ∙ ap (λ (x : Filled). written out 0 (x .text)) f))

@@ -3,8 +3,7 @@
 -- Assumes nothing.
 use mathlib.Core.Path.{_≡_, refl}
 use mathlib.Core.Bool.{Bool, true, false}
-use mathlib.Core.List.{List, [], _∷_}
-use Prim.Native.Nat.{ℕ}
+use mathlib.Core.List.{[], _∷_}
 use Prim.Native.String.{String}
 use Rattle.mode.specs.Mode.{row, named}
 use Rattle.sponge.specs.Sponge.{ceiling, start, oneShot, output as spongeOutput, squeezeBytes, runsFeeding, runsEnded}

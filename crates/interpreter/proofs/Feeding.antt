@@ -1,10 +1,10 @@
 -- Bytes are fed one after the other, so that a script's input may be cut anywhere.
 -- Assumes nothing.
 use mathlib.Core.Path.{_≡_, refl, sym, ap, _∙_}
-use mathlib.Core.Bool.{Bool, true, false}
+use mathlib.Core.Bool.{false}
 use mathlib.Core.List.{List, [], _∷_, _++_, append-assoc}
 use Prim.Native.Nat.{ℕ}
-use Rattle.interpreter.specs.Session.{Reader, Fed, silent, andThen, byteStep, fed, finished}
+use Rattle.interpreter.specs.Session.{Reader, Fed, silent, andThen, byteStep, fed}
 use Rattle.interpreter.specs.Theorems.{joined, fedAll}
 
 and-then : (s t : List ℕ) (f : Fed) → andThen s (andThen t f) ≡ andThen (s ++ t) f

@@ -1,13 +1,13 @@
 -- The loop that fills an output buffer, line after line.
 -- Assumes nothing.
 use mathlib.Core.Path.{_≡_, refl, sym, ap, _∙_}
-use mathlib.Core.List.{List, [], _∷_, _++_}
+use mathlib.Core.List.{List, [], _++_}
 use Prim.Native.Nat.{ℕ, suc, _+_, _-_, _≤_, _<_, min}
 use native.Mathlib.Nat.{zero-add}
 use native.Mathlib.Omega.{arith}
 use native.Mathlib.Decide.{decLe}
-use lib.ListN.{length, getD, take, drop, length-append, length-drop, length-take, take-append-drop, drop-of-length-le}
-use lib.Seq.{sets, sets-eq, length-take-le, take-at, drop-at, drop-drop, drop-cons, drop-length}
+use lib.ListN.{length, getD, take, drop, length-append, length-drop, take-append-drop, drop-of-length-le}
+use lib.Seq.{sets-eq, length-take-le, take-at, drop-at, drop-drop, drop-cons, drop-length}
 use Rattle.checks.specs.Buffers.{written}
 use Rattle.script.specs.Text.{Wrote}
 use Rattle.script.specs.Line.{longestLine}

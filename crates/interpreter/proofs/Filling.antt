@@ -3,13 +3,14 @@
 use mathlib.Core.Path.{_≡_, refl, sym, ap, _∙_}
 use mathlib.Core.Bool.{Bool, true, false, cond}
 use mathlib.Core.List.{List, [], _∷_, _++_, append-assoc, append-nil}
-use Prim.Native.Nat.{ℕ, _+_, _≤_, _<_}
+use Prim.Native.Nat.{ℕ, zero, suc, _+_, _≤_, _<_}
 use native.Mathlib.Omega.{arith}
 use lib.Dec.{leb}
 use lib.ListN.{length, length-append}
 use borrow.Author.Tests.{le-leb, lt-leb}
-use Rattle.interpreter.specs.Session.{Reader, Fed, silent, byteStep, fed, longestAnswer, Filled, filled}
-use Rattle.interpreter.specs.Theorems.{Taking}
+use Rattle.interpreter.specs.Session.{Reader, Fed, silent, byteStep, fed, longestAnswer, Filled, filled, outputSize}
+use Rattle.interpreter.specs.Theorems.{joined, Taking, partTexts}
+use Rattle.interpreter.proofs.Feeding.{fed-append}
 
 pub filled-parts : (size : ℕ) (r : Reader) (text chunk : List ℕ) → Taking r text chunk (filled size r text chunk)
 unfolding filled fed
@@ -54,3 +55,34 @@ filled-ahead size r text [] h n = absurd (omega arith)
 filled-ahead size r text (b ∷ s) h n =
     let p = filled-parts size (byteStep r b .reader) (text ++ byteStep r b .text) s in
     rw (filled-byte size r text b s h) (omega (arith, ap length (p .split), length-append (p .taken) (filled size (byteStep r b .reader) (text ++ byteStep r b .text) s .left)))
+
+-- ---- part after part
+
+module _ (r : Reader) (chunk : List ℕ) where
+  abbrev part : Filled
+  part = filled outputSize r [] chunk
+
+  -- the first part and what is fed after it print what the chunk prints
+  part-text : fed r chunk .text ≡ part .text ++ fed (part .reader) (part .left) .text
+  part-text =
+      let t = filled-parts outputSize r [] chunk in
+      ap (λ (c : List ℕ). fed r c .text) (t .split)
+      ∙ ap (λ (f : Fed). f .text) (fed-append r (t .taken) (part .left))
+      ∙ ap (λ (q : Reader). fed r (t .taken) .text ++ fed q (part .left) .text) (sym (t .reader))
+      ∙ ap (λ (l : List ℕ). l ++ fed (part .reader) (part .left) .text) (sym (t .printed))
+
+nothing-left : (s : List ℕ) → length s ≤ 0 → s ≡ []
+nothing-left [] h = refl
+nothing-left (b ∷ s) h = absurd (omega arith)
+
+enough : (n : ℕ) (r : Reader) (chunk : List ℕ) → length chunk ≤ n → joined (partTexts n r chunk) ≡ fed r chunk .text
+unfolding joined partTexts fed filled
+enough zero r chunk h = sym (ap (λ (c : List ℕ). fed r c .text) (nothing-left chunk h))
+enough (suc n) r [] h = enough n r [] (omega arith)
+enough (suc n) r (b ∷ s) h =
+    let fewer = filled-ahead outputSize r [] (b ∷ s) (omega arith) (omega arith) in
+    ap (λ (l : List ℕ). part r (b ∷ s) .text ++ l) (enough n (part r (b ∷ s) .reader) (part r (b ∷ s) .left) (omega (arith, fewer)))
+    ∙ sym (part-text r (b ∷ s))
+
+pub parts-whole : (r : Reader) (chunk : List ℕ) → joined (partTexts (length chunk) r chunk) ≡ fed r chunk .text
+parts-whole r chunk = enough (length chunk) r chunk (omega arith)

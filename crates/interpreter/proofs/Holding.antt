@@ -2,9 +2,9 @@
 -- Assumes nothing.
 use mathlib.Core.Path.{_≡_, refl, sym, ap, _∙_}
 use mathlib.Core.Bool.{Bool, true, false, cond}
-use mathlib.Core.List.{List, [], _∷_, _++_, append-nil}
-use Prim.Native.Nat.{ℕ, suc, _+_, _-_, _≤_, _<_, min}
-use native.Mathlib.Nat.{add-suc, suc-add, add-zero}
+use mathlib.Core.List.{List, [], _∷_, _++_}
+use Prim.Native.Nat.{ℕ, suc, _+_, _-_, _≤_}
+use native.Mathlib.Nat.{add-zero}
 use native.Mathlib.Numerals.{add-one}
 use native.Mathlib.Omega.{arith}
 use lib.Dec.{eqb}
@@ -15,8 +15,7 @@ use Rattle.script.specs.Text.{newline, before}
 use Rattle.script.specs.Line.{longestLine}
 use Rattle.script.specs.Input.{piece}
 use Rattle.script.proofs.Pieces.{piece-part}
-use Rattle.interpreter.specs.declared.Session.{Session}
-use Rattle.interpreter.specs.Session.{Reader, readerOf, silent, holding, hold, byteStep, longestAnswer, filled}
+use Rattle.interpreter.specs.Session.{Reader, readerOf, holding, hold, longestAnswer, filled}
 use Rattle.interpreter.proofs.Feeding.{stopped-byte}
 use Rattle.interpreter.proofs.Filling.{filled-silent}
 use Rattle.interpreter.proofs.Steps.{hold-step}

@@ -1,8 +1,8 @@
 -- No answer is longer than the room that is kept for one.
 -- Assumes nothing.
-use mathlib.Core.Path.{_≡_, refl, sym, ap, _∙_}
+use mathlib.Core.Path.{_≡_, refl, sym, _∙_}
 use mathlib.Core.Bool.{Bool, true, false, cond}
-use mathlib.Core.List.{List, [], _∷_, _++_}
+use mathlib.Core.List.{List, [], _∷_}
 use Prim.Native.Nat.{ℕ, _+_, _≤_}
 use native.Mathlib.Omega.{arith}
 use lib.Dec.{eqb, leb}
@@ -22,31 +22,11 @@ use Rattle.script.specs.declared.line.Verb.{Verb}
 use Rattle.script.specs.declared.line.Verb.the-variants.{Open, Feed, Draw, Check, Close, Sum}
 use Rattle.script.specs.Text.{same}
 use Rattle.script.specs.Number.{Reading, found, malformed}
-use Rattle.script.specs.Line.{Field, bytes, count, Line, FieldFits, mostBytes, mostCount, parse}
-use Rattle.script.specs.Parsed.{sizeOf}
+use Rattle.script.specs.Line.{Field, bytes, count, Line, FieldFits, mostBytes, parse}
 use Rattle.script.proofs.Answers.{answer-long}
 use Rattle.script.proofs.RoundTrip.{printed-lines}
 use Rattle.interpreter.specs.declared.Session.{Session}
-use Rattle.interpreter.specs.Script.{
-  names,
-  mostLines,
-  drawOf,
-  callFor,
-  callOf,
-  verbOf,
-  accepted,
-  acceptedBytes,
-  wordFor,
-  numberFor,
-  bytesFor,
-  answered,
-  Meaning,
-  theNames,
-  aCall,
-  aFault,
-  asCall,
-  meaning,
-}
+use Rattle.interpreter.specs.Script.{names, mostLines, drawOf, callFor, callOf, verbOf, accepted, acceptedBytes, wordFor, numberFor, bytesFor, answered, theNames, aFault, asCall, meaning}
 use Rattle.interpreter.specs.Session.{longestAnswer, stepBy, stepped}
 
 -- what holds of every way out of a list of checks holds of its answer

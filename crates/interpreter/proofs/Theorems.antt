@@ -1,6 +1,6 @@
 -- What a script prints, however its input comes.
 -- Assumes nothing.
-use mathlib.Core.Path.{_≡_, refl, sym, ap, _∙_}
+use mathlib.Core.Path.{_≡_, ap, _∙_}
 use mathlib.Core.List.{List, _++_}
 use Prim.Native.Nat.{ℕ}
 use lib.ListN.{length}
@@ -11,9 +11,9 @@ use Rattle.hub.proofs.Law.{hub-law}
 use Rattle.script.specs.Line.{longestLine}
 use Rattle.interpreter.specs.Script.{answerNames, answers, endingText, scriptOf, printedOf, output}
 use Rattle.interpreter.specs.Session.{Fed, finished}
-use Rattle.interpreter.specs.Theorems.{joined, fedAll, atFirst, printed, Scripts}
+use Rattle.interpreter.specs.Theorems.{joined, atFirst, printed, Scripts}
 use Rattle.interpreter.proofs.Feeding.{fed-joined}
-use Rattle.interpreter.proofs.Filling.{filled-parts}
+use Rattle.interpreter.proofs.Filling.{filled-parts, parts-whole}
 use Rattle.interpreter.proofs.Bounds.{turns-enough}
 use Rattle.interpreter.proofs.Whole.{from-the-start}
 
@@ -34,5 +34,6 @@ scripts =
       cut = cut;
       plain = plain;
       parts = filled-parts;
+      whole = parts-whole;
       turns = turns-enough;
     }

@@ -3,14 +3,14 @@
 use mathlib.Core.Path.{_≡_, refl, sym, ap, _∙_}
 use mathlib.Core.Bool.{Bool, true, false, cond, not, _&&_}
 use mathlib.Core.List.{List, [], _∷_, _++_, append-assoc, append-nil}
-use Prim.Native.Nat.{ℕ, suc, _+_, _≤_, _<_}
+use Prim.Native.Nat.{ℕ, _+_, _≤_, _<_}
 use native.Mathlib.Numerals.{add-one}
 use native.Mathlib.Omega.{arith}
 use lib.Dec.{eqb, leb, ltb}
-use lib.ListN.{length, take, set, length-append, length-set}
+use lib.ListN.{length, take, length-set}
 use lib.Seq.{take-suc-set, length-take-le}
-use borrow.Author.Tests.{eq-eqb, ne-eqb, eqb-true, eqb-false, ltb-true, ltb-false, lt-leb, lt-ltb, le-ltb}
-use Rattle.calls.specs.Call.{Call, Event, events}
+use borrow.Author.Tests.{ne-eqb, eqb-true, eqb-false, ltb-true, ltb-false, lt-leb}
+use Rattle.calls.specs.Call.{Call, events}
 use Rattle.hub.specs.declared.Hub.{Hub}
 use Rattle.hub.specs.Hub.{emptyHub, onHub}
 use Rattle.script.specs.Text.{newline, same}
@@ -19,45 +19,8 @@ use Rattle.script.specs.Number.{malformed}
 use Rattle.script.specs.Line.{longestLine, fields, parse}
 use Rattle.script.specs.Input.{inFront, lines}
 use Rattle.interpreter.specs.declared.Session.{Session}
-use Rattle.interpreter.specs.Script.{
-  names,
-  mostLines,
-  answers,
-  Meaning,
-  theNames,
-  aCall,
-  aFault,
-  asCall,
-  meaning,
-  Ending,
-  atTheEnd,
-  atLine,
-  Script,
-  followed,
-  scriptFrom,
-  scriptOf,
-  stopLine,
-  endingText,
-  printedOf,
-}
-use Rattle.interpreter.specs.Session.{
-  begun,
-  LineStep,
-  goOn,
-  halted,
-  stopped,
-  called,
-  stepBy,
-  stepped,
-  Reader,
-  Fed,
-  silent,
-  afterStep,
-  hold,
-  byteStep,
-  fed,
-  finished,
-}
+use Rattle.interpreter.specs.Script.{names, mostLines, answers, Meaning, theNames, aCall, aFault, asCall, meaning, atTheEnd, atLine, Script, followed, scriptFrom, scriptOf, stopLine, endingText, printedOf}
+use Rattle.interpreter.specs.Session.{begun, stepBy, stepped, Reader, Fed, silent, hold, byteStep, fed, finished}
 use Rattle.interpreter.specs.Theorems.{atFirst}
 use Rattle.interpreter.proofs.Feeding.{stopped-fed}
 use Rattle.interpreter.proofs.Steps.{newline-step, hold-step, long-step}
@@ -120,9 +83,6 @@ long-script k h b ls e =
     rw (w .split, long-malformed k (w .first) (omega (arith, w .more)))
 
 -- ---- what is printed of a line and the lines after it
-
-printed-names : (s : Session) (rest : Script) (k : ℕ) → printedOf onHub (s .hub) (followed k theNames rest) ≡ stepBy s theNames .text ++ printedOf onHub (stepBy s theNames .session .hub) rest
-printed-names s rest k = refl
 
 printed-call : (s : Session) (c : Call) (rest : Script) (k : ℕ) → printedOf onHub (s .hub) (followed k (aCall c) rest) ≡ stepBy s (aCall c) .text ++ printedOf onHub (stepBy s (aCall c) .session .hub) rest
 unfolding printedOf events answers

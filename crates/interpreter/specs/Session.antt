@@ -12,6 +12,7 @@ use Rattle.script.specs.Text.{newline}
 use Rattle.script.specs.Line.{longestLine}
 use Rattle.interpreter.specs.declared.Session.{Session}
 use Rattle.interpreter.specs.declared.Progress.{Progress}
+use Rattle.interpreter.specs.declared.line.Stepped.{Stepped}
 use Rattle.interpreter.specs.Script.{Meaning, theNames, aCall, aFault, meaning, answerNames, answered, verbOf, stopLine}
 
 -- line 1 is to be read, and nothing of it was
@@ -74,10 +75,11 @@ silent r = record { reader = r; text = [] }
 abbrev pub afterStep : Reader → LineStep → Fed
 afterStep r s = record { reader = record { session = s .session; line = r .line }; text = s .text }
 
--- one more byte of the line
+-- the buffer holds n bytes of the line
 abbrev pub holding : Session → ℕ → Session
 holding s n = record { hub = s .hub; number = s .number; held = n; going = s .going }
 
+-- one more byte of it
 abbrev pub hold : Reader → ℕ → Fed
 hold r b =
     silent (record { session = holding (r .session) (r .session .held + 1); line = set (r .line) (r .session .held) b })
@@ -137,6 +139,10 @@ filledFrom s line chunk at = filled outputSize (readerOf s line) [] (drop at chu
 -- the session after it, the place in the chunk where it stopped, and how much of the buffer it filled
 abbrev pub progressOf : List ℕ → Filled → Progress
 progressOf chunk f = record { session = f .reader .session; next = length chunk - length (f .left); size = length (f .text) }
+
+-- the session after feeding bytes, and how much they printed
+abbrev pub endOf : Fed → Stepped
+endOf f = record { session = f .reader .session; size = length (f .text) }
 
 -- where a script begins, with the line of names in the output buffer
 abbrev pub begunProgress : Progress

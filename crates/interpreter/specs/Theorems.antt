@@ -3,13 +3,13 @@
 use mathlib.Core.Path.{_≡_}
 use mathlib.Core.Bool.{true}
 use mathlib.Core.List.{List, [], _∷_, _++_}
-use Prim.Native.Nat.{ℕ, _≤_}
+use Prim.Native.Nat.{ℕ, zero, suc, _≤_}
 use lib.ListN.{length}
 use Rattle.calls.specs.Machine.{machine, emptyMachine}
 use Rattle.hub.specs.Hub.{emptyHub, onHub}
 use Rattle.script.specs.Line.{longestLine}
 use Rattle.interpreter.specs.Script.{answerNames, output}
-use Rattle.interpreter.specs.Session.{begun, Reader, readerOf, Fed, silent, andThen, fed, finished, Filled, filled}
+use Rattle.interpreter.specs.Session.{begun, Reader, readerOf, Fed, silent, andThen, fed, finished, Filled, filled, outputSize}
 
 -- chunks one after the other
 unfoldable pub joined : List (List ℕ) → List ℕ
@@ -44,6 +44,13 @@ pub record Taking (r : Reader) (text chunk : List ℕ) (f : Filled) : Type 0 whe
   pub reader : f .reader ≡ fed r taken .reader
   pub printed : f .text ≡ text ++ fed r taken .text
 
+-- what is printed of a chunk, one output buffer after the other: each is filled from what the one before it left, and there are no more of them than bytes
+unfoldable pub partTexts : ℕ → Reader → List ℕ → List (List ℕ)
+partTexts zero r chunk = []
+partTexts (suc n) r chunk =
+    let f : Filled = filled outputSize r [] chunk in
+    f .text ∷ partTexts n (f .reader) (f .left)
+
 pub record Scripts : Type 0 where
   -- input cut into chunks anywhere prints what the whole script prints
   pub cut : (line : List ℕ) (chunks : List (List ℕ)) → length line ≡ longestLine → printed line chunks ≡ output onHub emptyHub (joined chunks)
@@ -51,6 +58,8 @@ pub record Scripts : Type 0 where
   pub plain : (input : List ℕ) → output onHub emptyHub input ≡ output machine emptyMachine input
   -- a chunk whose answers do not fit into a buffer is taken in parts
   pub parts : (size : ℕ) (r : Reader) (text chunk : List ℕ) → Taking r text chunk (filled size r text chunk)
+  -- and all its parts together print what the chunk prints
+  pub whole : (r : Reader) (chunk : List ℕ) → joined (partTexts (length chunk) r chunk) ≡ fed r chunk .text
   -- a program that reads a byte at least in each turn makes no more than so many turns before the script has stopped or its input has ended
   pub turns : (line : List ℕ) (chunks : List (List ℕ)) → NotEmpty chunks
       → fedAll (atFirst line) chunks .reader .session .going ≡ true → length chunks ≤ mostInput

@@ -5,7 +5,6 @@ use hub::Reply;
 use script::Verb;
 use script::Word;
 ghost use mathlib.Core.Path.{_≡_};
-ghost use Prim.Native.Nat.{ℕ};
 ghost use lib.ListN.{length, replicate};
 ghost use Rattle.hub.specs.Hub.{onHub, replyOf};
 ghost use Rattle.script.specs.Text.{Wrote};

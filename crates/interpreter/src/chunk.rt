@@ -1,12 +1,12 @@
 // Input in chunks, and an output buffer that its answers fill.
 use crate::Progress;
 use crate::Session;
+use crate::line::Stepped;
 use crate::line::step;
 use crate::line::stop;
 ghost use mathlib.Core.Path.{_≡_};
-ghost use mathlib.Core.List.{[]};
 ghost use Prim.Native.Nat.{_<_, min};
-ghost use lib.ListN.{length, drop};
+ghost use lib.ListN.{length};
 ghost use Rattle.checks.specs.Buffers.{written};
 ghost use Rattle.script.specs.Line.{longestLine};
 ghost use Rattle.interpreter.specs.Script.{answerNames};
@@ -133,16 +133,23 @@ pub fn begin(out: &mut [u8; 65536]) -> Progress
     begin_in(out)
 }
 
-// Ends a script with its input: puts what is still printed at the start of the output buffer, and answers how much that is. A last newline that is missing is
-// supplied; so is all of line 1, which is malformed then.
-pub fn finish(session: Session, line: &mut [u8; 2100], out: &mut [u8; 65536]) -> usize
-    ensures size { λ r. ⌜ r ≡ length (spec.finished (spec.readerOf session (now (line .entry))) .text) ⌝ }
+// Ends a script with its input: puts what is still printed at the start of the output buffer. A newline that is missing is supplied; so is all of line 1, which is
+// malformed then.
+pub fn finish(session: Session, line: &mut [u8; 2100], out: &mut [u8; 65536]) -> Stepped
+    ensures stepped { λ r. ⌜ r ≡ spec.endOf (spec.finished (spec.readerOf session (now (line .entry)))) ⌝ }
     ensures line { λ r. ⌜ now (line .exit) ≡ spec.finished (spec.readerOf session (now (line .entry))) .reader .line ⌝ }
     ensures out { λ r. ⌜ now (out .exit) ≡ written (now (out .entry)) 0 (spec.finished (spec.readerOf session (now (line .entry))) .text) ⌝ }
 {
     if session.complete() {
-        return 0;
+        return Stepped {
+            session: session,
+            size: 0,
+        };
     }
     let last = fill(session, b"\n", 0, line, out);
-    last.size
+    let after = last.session;
+    Stepped {
+        session: after,
+        size: last.size,
+    }
 }

@@ -2,7 +2,7 @@
 -- Assumes nothing.
 use mathlib.Core.Path.{_≡_, refl, sym, ap, _∙_}
 use mathlib.Core.Bool.{true, false, false≢true}
-use mathlib.Core.List.{List, [], _∷_, _++_, append-assoc}
+use mathlib.Core.List.{List, [], _++_, append-assoc}
 use Prim.Native.Nat.{ℕ, _+_, _-_, _≤_, _<_}
 use native.Mathlib.Omega.{arith}
 use lib.ListN.{length, take, drop, length-append, length-drop, take-append-drop, drop-of-length-le}
@@ -10,10 +10,9 @@ use lib.Seq.{take-at}
 use Rattle.checks.specs.Buffers.{written}
 use Rattle.interpreter.specs.declared.Session.{Session}
 use Rattle.interpreter.specs.declared.Progress.{Progress}
-use Rattle.interpreter.specs.Session.{Reader, readerOf, Fed, fed, Filled, filled, outputSize, filledFrom, progressOf}
+use Rattle.interpreter.specs.Session.{Reader, readerOf, Fed, fed, Filled, outputSize, filledFrom, progressOf}
 use Rattle.interpreter.proofs.Feeding.{fed-append}
 use Rattle.interpreter.proofs.Filling.{filled-parts, filled-ahead}
-use Rattle.rampscript.specs.declared.Answered.{Answered}
 use Rattle.rampscript.specs.Program.{Answering}
 
 -- what was printed stands in the buffer

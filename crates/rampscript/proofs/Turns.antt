@@ -1,49 +1,51 @@
 -- Turn after turn, until none is to be made.
 -- Assumes nothing.
-use mathlib.Core.Path.{_≡_, refl, sym, ap, _∙_}
-use mathlib.Core.Bool.{Bool, true, false, not, _&&_, false≢true}
+use mathlib.Core.Path.{_≡_, refl, sym, ap, _∙_, subst}
+use mathlib.Core.Bool.{Bool, true, false, cond, not, _&&_, false≢true}
 use mathlib.Core.List.{List, [], _∷_, _++_, append-nil}
 use Prim.Native.Nat.{ℕ, _≤_, _<_}
 use native.Mathlib.Omega.{arith}
 use lib.Dec.{eqb}
 use lib.ListN.{length}
 use borrow.Author.Tests.{eqb-false, not-true}
-use Rattle.interpreter.specs.Session.{Reader, readerOf, fed}
-use Rattle.interpreter.specs.Theorems.{fedAll}
+use Rattle.interpreter.specs.declared.Session.{Session}
+use Rattle.interpreter.specs.Session.{begun, Reader, readerOf, fed, finished}
+use Rattle.interpreter.specs.Theorems.{fedAll, atFirst, NotEmpty}
 use Rattle.interpreter.proofs.Bounds.{left, fed-left}
-use Rattle.rampscript.specs.declared.Answered.{Answered}
 use Rattle.rampscript.specs.declared.Turn.{Turn}
-use Rattle.rampscript.specs.Program.{Answering, Turning, more, Running}
+use Rattle.rampscript.specs.declared.Ended.{Ended}
+use Rattle.rampscript.specs.Program.{Answering, answeredBy, Turning, more, Running, finishes, Ending}
 
 -- ---- one turn
 
-pub turning : (r : Reader) (chunk : List ℕ) (a : Answered) (t : Turn) (line : List ℕ) → Answering r chunk a line
-    → t .session ≡ a .session → t .wrote ≡ a .wrote → t .count ≡ length chunk → Turning r t line
-turning r chunk a t line w session wrote count =
-    record {
-      chunk = chunk;
-      count = count;
-      reader = λ e.
-          let none : w .left ≡ [] = w .all (sym wrote ∙ e) in
-          let all : chunk ≡ w .taken = w .split ∙ ap (λ (l : List ℕ). w .taken ++ l) none ∙ append-nil (w .taken) in
-          ap (λ s. readerOf s line) session ∙ w .reader ∙ ap (λ (l : List ℕ). fed r l .reader) (sym all);
-    }
+-- a turn whose answers were written fed its whole chunk
+module _ {r : Reader} {t : Turn} {line : List ℕ} (w : Turning r t line) where
+  fed-whole : t .wrote ≡ true → readerOf (t .session) line ≡ fed r (w .chunk) .reader
+  fed-whole e =
+      let a = w .answering in
+      let all : w .chunk ≡ a .taken = a .split ∙ ap (λ (l : List ℕ). a .taken ++ l) (a .all e) ∙ append-nil (a .taken) in
+      a .reader ∙ ap (λ (l : List ℕ). fed r l .reader) (sym all)
 
 -- ---- all turns
 
--- where the loop stands: the chunks that were read were fed
+-- where the loop stands: the chunks that were read, of a byte at least each, were fed
 pub record Made (r q : Reader) : Type 0 where
   pub chunks : List (List ℕ)
+  pub some : NotEmpty chunks
   pub reader : q ≡ fedAll r chunks .reader
 
 pub made-none : (r : Reader) → Made r r
 unfolding fedAll
-made-none r = record { chunks = []; reader = refl }
+made-none r = record { chunks = []; some = tt; reader = refl }
 
 fed-last : (r : Reader) (cs : List (List ℕ)) (c : List ℕ) → fedAll r (cs ++ (c ∷ [])) .reader ≡ fed (fedAll r cs .reader) c .reader
 unfolding fedAll
 fed-last r [] c = refl
 fed-last r (d ∷ cs) c = fed-last (fed r d .reader) cs c
+
+some-last : (cs : List (List ℕ)) (c : List ℕ) → NotEmpty cs → 1 ≤ length c → NotEmpty (cs ++ (c ∷ []))
+some-last [] c h n = (n, tt)
+some-last (d ∷ cs) c h n = (h .0, some-last cs c (h .1) n)
 
 and-all : (s t u : Bool) → s && (t && u) ≡ true → (s ≡ true) × ((t ≡ true) × (u ≡ true))
 and-all true true true e = (refl, (refl, refl))
@@ -51,28 +53,70 @@ and-all true true false e = absurd (false≢true e)
 and-all true false u e = absurd (false≢true e)
 and-all false t u e = absurd (false≢true e)
 
-some : (n : ℕ) → not (eqb n 0) ≡ true → 1 ≤ n
-some n e = let h = eqb-false n 0 (not-true (eqb n 0) e) in omega (arith, h)
+one-at-least : (n : ℕ) → not (eqb n 0) ≡ true → 1 ≤ n
+one-at-least n e = let h = eqb-false n 0 (not-true (eqb n 0) e) in omega (arith, h)
 
 module _ (r q : Reader) (t : Turn) (line : List ℕ) (m : Made r q) (w : Turning q t line) where
-  -- all that was read, where it was answered
-  fed-on : t .wrote ≡ true → readerOf (t .session) line ≡ fedAll r (m .chunks ++ (w .chunk ∷ [])) .reader
-  fed-on e = w .reader e ∙ ap (λ (p : Reader). fed p (w .chunk) .reader) (m .reader) ∙ sym (fed-last r (m .chunks) (w .chunk))
-
   pub run-over : more t ≡ false → Running r t line
-  run-over e = record { chunks = m .chunks ++ (w .chunk ∷ []); reader = fed-on; over = e }
+  run-over e = record { before = m .chunks; some = m .some; last = subst (λ (p : Reader). Turning p t line) (m .reader) w; over = e }
 
   module _ (again : more t ≡ true) where
     told : (t .wrote ≡ true) × ((not (eqb (t .count) 0) ≡ true) × (t .session .going ≡ true))
     told = and-all (t .wrote) (not (eqb (t .count) 0)) (t .session .going) again
 
+    size : 1 ≤ length (w .chunk)
+    size = omega (arith, w .count, one-at-least (t .count) (told .1 .0))
+
     pub made-more : Made r (readerOf (t .session) line)
-    made-more = record { chunks = m .chunks ++ (w .chunk ∷ []); reader = fed-on (told .0) }
+    made-more =
+        record {
+          chunks = m .chunks ++ (w .chunk ∷ []);
+          some = some-last (m .chunks) (w .chunk) (m .some) size;
+          reader = fed-whole w (told .0) ∙ ap (λ (p : Reader). fed p (w .chunk) .reader) (m .reader) ∙ sym (fed-last r (m .chunks) (w .chunk));
+        }
 
     -- fewer bytes may still be read
     pub fewer : left (t .session) < left (q .session)
     fewer =
-        let s = w .reader (told .0) in
+        let s = fed-whole w (told .0) in
         let going : fed q (w .chunk) .reader .session .going ≡ true = sym (ap (λ (p : Reader). p .session .going) s) ∙ told .1 .1 in
         let same : left (t .session) ≡ left (fed q (w .chunk) .reader .session) = ap (λ (p : Reader). left (p .session)) s in
-        omega (arith, fed-left q (w .chunk) going, same, w .count, some (t .count) (told .1 .0))
+        omega (arith, fed-left q (w .chunk) going, same, size)
+
+-- ---- the whole script
+
+pick-true : (b : Bool) (x y : Reader) → b ≡ true → cond b x y ≡ x
+pick-true b x y e = rw e
+
+pick-false : (b : Bool) (x y : Reader) → b ≡ false → cond b x y ≡ y
+pick-false b x y e = rw e
+
+-- the names were not written
+pub ending-none : (line : List ℕ) (s : Session) → s ≡ begun → Ending line (record { session = s; started = false; failed = false; wrote = false }) line
+unfolding fedAll
+ending-none line s e = record { chunks = []; reader = ap (λ (x : Session). readerOf x line) e }
+
+module _ (line : List ℕ) (t : Turn) (line′ : List ℕ) (w : Running (atFirst line) t line′) where
+  -- all that was fed
+  fed-in-all : List (List ℕ)
+  fed-in-all = w .before ++ (w .last .answering .taken ∷ [])
+
+  then-last : readerOf (t .session) line′ ≡ fedAll (atFirst line) fed-in-all .reader
+  unfolding fed-in-all
+  then-last = w .last .answering .reader ∙ sym (fed-last (atFirst line) (w .before) (w .last .answering .taken))
+
+  abbrev ended : Session → Ended
+  ended s = record { session = s; started = true; failed = t .failed; wrote = t .wrote }
+
+  -- a read or a write failed
+  pub ending-early : finishes (ended (t .session)) ≡ false → Ending line (ended (t .session)) line′
+  ending-early e = record { chunks = fed-in-all; reader = then-last ∙ sym (pick-false (finishes (ended (t .session))) _ _ e) }
+
+  -- the input has ended
+  pub ending-whole : (s : Session) (line″ : List ℕ) → finishes (ended s) ≡ true
+      → s ≡ finished (readerOf (t .session) line′) .reader .session → line″ ≡ finished (readerOf (t .session) line′) .reader .line → Ending line (ended s) line″
+  ending-whole s line″ e p q =
+      record {
+        chunks = fed-in-all;
+        reader = rw (p, q) (ap (λ (x : Reader). finished x .reader) then-last) ∙ sym (pick-true (finishes (ended s)) _ _ e);
+      }

@@ -1,19 +1,19 @@
--- What the program's functions hand on. What was read, and that what is handed to a write was written, no contract can say; a chunk that was read is a list of bytes
--- here, of which nothing is known.
+-- What the program's functions hand on. What a read brought, and that a write wrote what it was lent, no contract of the kit says: a chunk that was read is a list of bytes
+-- here, of which nothing is known. That what is lent to a write is what `fill` put into its buffer stands in the code.
 -- Assumes nothing.
 use mathlib.Core.Path.{_≡_}
-use mathlib.Core.Bool.{Bool, true, false, not, _&&_}
-use mathlib.Core.List.{List, [], _∷_, _++_}
+use mathlib.Core.Bool.{Bool, true, false, cond, not, _&&_}
+use mathlib.Core.List.{List, [], _++_}
 use Prim.Native.Nat.{ℕ}
 use lib.Dec.{eqb}
 use lib.ListN.{length}
-use Rattle.interpreter.specs.declared.Session.{Session}
-use Rattle.interpreter.specs.Session.{Reader, readerOf, fed}
-use Rattle.interpreter.specs.Theorems.{fedAll}
+use Rattle.interpreter.specs.Session.{Reader, readerOf, fed, finished}
+use Rattle.interpreter.specs.Theorems.{fedAll, atFirst, NotEmpty}
 use Rattle.rampscript.specs.declared.Answered.{Answered}
 use Rattle.rampscript.specs.declared.Turn.{Turn}
+use Rattle.rampscript.specs.declared.Ended.{Ended}
 
--- A chunk was answered: its bytes were fed, all of them unless a write failed.
+-- A chunk was answered: its first bytes were fed, and all of them unless a write failed.
 pub record Answering (r : Reader) (chunk : List ℕ) (a : Answered) (line : List ℕ) : Type 0 where
   pub taken : List ℕ
   pub left : List ℕ
@@ -21,18 +21,33 @@ pub record Answering (r : Reader) (chunk : List ℕ) (a : Answered) (line : List
   pub reader : readerOf (a .session) line ≡ fed r taken .reader
   pub all : a .wrote ≡ true → left ≡ []
 
--- A turn was made: a chunk was read, of so many bytes, and answered.
+-- what a turn has of an answered chunk
+abbrev pub answeredBy : Turn → Answered
+answeredBy t = record { session = t .session; wrote = t .wrote }
+
+-- A turn was made: a chunk of so many bytes was read, of none where the read failed, and was answered.
 pub record Turning (r : Reader) (t : Turn) (line : List ℕ) : Type 0 where
   pub chunk : List ℕ
   pub count : t .count ≡ length chunk
-  pub reader : t .wrote ≡ true → readerOf (t .session) line ≡ fed r chunk .reader
+  pub failed : t .failed ≡ true → t .count ≡ 0
+  pub answering : Answering r chunk (answeredBy t) line
 
 -- another turn is to be made: all answers were written, the read gave something, and the script has not stopped
 abbrev pub more : Turn → Bool
 more t = t .wrote && (not (eqb (t .count) 0) && t .session .going)
 
--- Turns were made until none was to be made: the chunks that were read were fed one after the other, unless a write failed.
+-- Turns were made until none was to be made: each chunk before the last had a byte at least and was fed whole, and this was the last turn.
 pub record Running (r : Reader) (t : Turn) (line : List ℕ) : Type 0 where
-  pub chunks : List (List ℕ)
-  pub reader : t .wrote ≡ true → readerOf (t .session) line ≡ fedAll r chunks .reader
+  pub before : List (List ℕ)
+  pub some : NotEmpty before
+  pub last : Turning (fedAll r before .reader) t line
   pub over : more t ≡ false
+
+-- the end of the input is told to the script where the names and all answers were written and no read failed
+abbrev pub finishes : Ended → Bool
+finishes e = e .started && (not (e .failed) && e .wrote)
+
+-- The script was run: from its first line on, the bytes of these chunks were fed one after the other, and then, or not, it was told that they end.
+pub record Ending (line : List ℕ) (e : Ended) (line′ : List ℕ) : Type 0 where
+  pub chunks : List (List ℕ)
+  pub reader : readerOf (e .session) line′ ≡ cond (finishes e) (finished (fedAll (atFirst line) chunks .reader) .reader) (fedAll (atFirst line) chunks .reader)

@@ -1,11 +1,12 @@
-// Reads a script from standard input and prints its answers: the loop over the interpreter, and nothing else. An error in reading or writing ends it; what was answered
-// before is written by then.
+// Reads a script from standard input and prints its answers: the loop over the interpreter, and nothing else. A read or a write that fails ends it: after a failed read all
+// answers to what was read before have been written, and after a failed write nothing more is.
 use interpreter::Session;
 use libc::STDIN_FILENO;
 use libc::STDOUT_FILENO;
 ghost use mathlib.Core.Path.{_≡_};
+ghost use mathlib.Core.Bool.{true};
 ghost use Rattle.interpreter.specs.Session.{begun, readerOf, finished};
-ghost use Rattle.rampscript.specs.Program.{more as moreTurns, Answering, Turning, Running};
+ghost use Rattle.rampscript.specs.Program.{more as moreTurns, Answering, Turning, Running, Ending};
 
 // A script after a chunk, and whether its answers were written.
 struct Answered {
@@ -21,6 +22,14 @@ struct Turn {
     // whether the read failed, and did not meet the end of the input
     failed: bool,
     // whether all answers were written
+    wrote: bool,
+}
+
+// A script that was run: its session at last, whether the names were written, and how the last turn ended.
+struct Ended {
+    session: Session,
+    started: bool,
+    failed: bool,
     wrote: bool,
 }
 
@@ -65,6 +74,16 @@ fn answer(first: Session, chunk: &[u8], line: &mut [u8; 2100]) -> Answered
     }
 }
 
+// Whether a read that gave so many bytes failed. The end of the input is 0.
+fn read_failed(got: isize, count: usize) -> bool
+    ensures { λ r. ⌜ (r ≡ true → count ≡ 0) ⌝ }
+{
+    if count != 0 {
+        return false;
+    }
+    got != 0
+}
+
 // Reads a chunk, whatever there is to read, and answers it.
 fn make_turn(session: Session, line: &mut [u8; 2100]) -> Turn
     ensures { λ r. ⌜ Turning (readerOf session (now (line .entry))) r (now (line .exit)) ⌝ }
@@ -77,7 +96,7 @@ fn make_turn(session: Session, line: &mut [u8; 2100]) -> Turn
     Turn {
         session: after,
         count: count,
-        failed: got < 0,
+        failed: read_failed(got, count),
         wrote: answered.wrote,
     }
 }
@@ -94,7 +113,7 @@ fn more(turn: Turn) -> bool
     turn.session.going
 }
 
-// Turn after turn.
+// Makes turns until none is to be made.
 fn run(first: Session, line: &mut [u8; 2100]) -> Turn
     ensures { λ r. ⌜ Running (readerOf first (now (line .entry))) r (now (line .exit)) ⌝ }
 {
@@ -110,25 +129,60 @@ fn run(first: Session, line: &mut [u8; 2100]) -> Turn
 }
 
 // The input has ended.
-fn end(session: Session, line: &mut [u8; 2100]) -> bool
-    ensures { λ r. ⌜ now (line .exit) ≡ finished (readerOf session (now (line .entry))) .reader .line ⌝ }
+fn end(session: Session, line: &mut [u8; 2100]) -> Session
+    ensures session { λ r. ⌜ r ≡ finished (readerOf session (now (line .entry))) .reader .session ⌝ }
+    ensures line { λ r. ⌜ now (line .exit) ≡ finished (readerOf session (now (line .entry))) .reader .line ⌝ }
 {
     let mut out = io::large_buffer();
-    let size = interpreter::finish(session, line, &mut out);
-    io::write_all(STDOUT_FILENO, &out[..size])
+    let last = interpreter::finish(session, line, &mut out);
+    let size = last.size;
+    io::write_all(STDOUT_FILENO, &out[..size]);
+    last.session
+}
+
+// The whole script. Where a write or a read fails nothing more is read or written.
+fn run_script(line: &mut [u8; 2100]) -> Ended
+    ensures { λ r. ⌜ Ending (now (line .entry)) r (now (line .exit)) ⌝ }
+{
+    let started = start();
+    let first = started.session;
+    if !started.wrote {
+        return Ended {
+            session: first,
+            started: false,
+            failed: false,
+            wrote: false,
+        };
+    }
+    let last = run(first, line);
+    let session = last.session;
+    let failed = last.failed;
+    let wrote = last.wrote;
+    if failed {
+        return Ended {
+            session: session,
+            started: true,
+            failed: failed,
+            wrote: wrote,
+        };
+    }
+    if !wrote {
+        return Ended {
+            session: session,
+            started: true,
+            failed: failed,
+            wrote: wrote,
+        };
+    }
+    Ended {
+        session: end(session, line),
+        started: true,
+        failed: failed,
+        wrote: wrote,
+    }
 }
 
 fn main() {
-    let started = start();
-    if !started.wrote {
-        return;
-    }
     let mut line = [0u8; 2100];
-    let first = started.session;
-    let last = run(first, &mut line);
-    if last.failed || !last.wrote {
-        return;
-    }
-    let session = last.session;
-    end(session, &mut line);
+    run_script(&mut line);
 }

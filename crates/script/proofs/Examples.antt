@@ -1,9 +1,11 @@
 -- Computed: lines that are well-formed and lines that are not, answers, and texts cut into lines. They guard the definitions.
 -- Assumes nothing.
 use mathlib.Core.Path.{_≡_, refl}
+use mathlib.Core.Bool.{true, false}
 use mathlib.Core.List.{[], _∷_}
+use lib.ListN.{replicate}
 use Rattle.script.specs.declared.line.Verb.the-variants.{Open, Feed, Draw, Check, Close, Sum}
-use Rattle.script.specs.declared.answer.Word.the-variants.{Ok, No}
+use Rattle.script.specs.declared.answer.Word.the-variants.{Ok, Pass, Fail, No, Stop}
 use Rattle.script.specs.Text.{text, same, before, after}
 use Rattle.script.specs.Number.{found, malformed, isDigit, allDigits, plainStart, valueFrom, isNumber, numberOf, spelled, decimal}
 use Rattle.script.specs.Hex.{nibble, glyph, hexPairs, decoded, hexOf, bytesText}
@@ -50,9 +52,17 @@ ill-formed = (refl, refl, refl, refl, refl, refl, refl, refl, refl, refl, refl, 
 
 pub answers :
     (answerLine No 12 [] ≡ text "no 12 -\n")
+    × (answerLine Pass 2 [] ≡ text "pass 2 -\n")
+    × (answerLine Fail 0 [] ≡ text "fail 0 -\n")
+    × (answerLine Stop 1000001 [] ≡ text "stop 1000001 -\n")
     × (answerLine Ok 18446744073709551615 (0x00 ∷ 0xff ∷ []) ≡ text "ok 18446744073709551615 00ff\n")
 unfolding answerLine spelled decimal glyph hexOf bytesText
-answers = (refl, refl)
+answers = (refl, refl, refl, refl, refl)
+
+-- 1,024 bytes are as many as a field may have
+pub most-bytes : (isHex (replicate 2048 0x30) ≡ true) × (isHex (replicate 2050 0x30) ≡ false)
+unfolding isHex hexPairs nibble
+most-bytes = (refl, refl)
 
 pub cut :
     (lines (text "") ≡ [])

@@ -1,7 +1,7 @@
 -- A script line: what it may say, how it is written, and how it is read. Document 01's "Script program".
 -- Assumes nothing.
 use mathlib.Core.Path.{_≡_}
-use mathlib.Core.Bool.{Bool, true, false, cond, _&&_}
+use mathlib.Core.Bool.{Bool, cond, _&&_}
 use mathlib.Core.List.{List, [], _∷_, _++_}
 use Prim.Native.Nat.{ℕ, _+_, _*_, _/_, _%_, _≤_, _<_}
 use lib.Dec.{eqb, leb}
@@ -14,7 +14,7 @@ use Rattle.script.specs.Hex.{hexPairs, decoded, hexOf, bytesText}
 
 -- ---- limits
 
--- a line has at most so many bytes without its newline
+-- a line has at most so many bytes without its newline. No line that may be said is so long: the longest has 2,065
 abbrev pub longestLine : ℕ
 longestLine = 2100
 

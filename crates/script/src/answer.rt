@@ -3,7 +3,6 @@ use crate::hex::put_field;
 use crate::number::put_decimal;
 use crate::text::put_byte;
 use crate::text::put_bytes;
-ghost use mathlib.Core.Path.{_≡_};
 ghost use Rattle.script.specs.Answer as spec;
 ghost use Rattle.script.specs.Text.{Wrote};
 

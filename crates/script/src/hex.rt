@@ -1,4 +1,4 @@
-// Bytes in hexadecimal. No branch that decides what comes next, and no index, depends on a digit: they may be a key's.
+// Bytes in hexadecimal. They may be a key: each loop goes over all of them, whatever they are, and no index depends on one.
 use crate::text::place_in;
 use crate::text::put_byte;
 ghost use mathlib.Core.Path.{_≡_};

@@ -1,6 +1,6 @@
 -- `fill_in` meets its contract. The loop: filling what is left goes on from what is in the buffer.
 -- Assumes nothing.
-use Prim.Native.Nat.{ℕ, _-_}
+use Prim.Native.Nat.{_-_}
 use native.Mathlib.Omega.{arith}
 use lib.ListN.{length}
 use borrow.Author.Needs.{needs}
