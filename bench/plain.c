@@ -139,3 +139,68 @@ uint32_t plain_prf_short(const uint8_t *key, size_t key_length, const uint8_t *m
     for (size_t i = 0; i < length; i++) out[i] = last[16 - length + i];
     return 0;
 }
+
+/* A hub of MAC tickets. A free place has ticket 0. */
+enum { PLACES = 16, RATE = 32, MOST_FED = 16777216 };
+
+struct record {
+    uint64_t words[5], runs;
+    uint32_t ticket;
+    uint64_t fed;
+    int feeding;
+};
+
+struct hub {
+    struct record records[PLACES];
+    uint32_t issued;
+};
+
+struct answer {
+    uint32_t refusal;
+    uint64_t runs;
+};
+
+static void run(struct record *r) {
+    permute(r->words);
+    r->runs++;
+}
+
+static void absorb(struct record *r, const uint8_t *bytes, size_t length) {
+    size_t at = r->fed % RATE;
+    r->fed += length;
+    while (length) {
+        if (at == 0 && length >= RATE) {
+            for (int j = 0; j < RATE / 8; j++) r->words[j] ^= load(bytes + 8 * j);
+            run(r);
+            bytes += RATE;
+            length -= RATE;
+        } else {
+            r->words[at / 8] ^= (uint64_t)*bytes++ << (56 - at % 8 * 8);
+            length--;
+            at = (at + 1) % RATE;
+            if (at == 0) run(r);
+        }
+    }
+}
+
+static struct answer feed(struct hub *h, uint32_t ticket, const uint8_t *bytes, size_t length) {
+    struct record *r = h->records;
+    if (ticket == 0 || ticket > h->issued) return (struct answer){11, 0};
+    while (r < h->records + PLACES && r->ticket != ticket) r++;
+    if (r == h->records + PLACES) return (struct answer){12, 0};
+    if (!r->feeding) return (struct answer){15, 0};
+    if (length > MOST_FED - r->fed) return (struct answer){16, 0};
+    absorb(r, bytes, length);
+    return (struct answer){0, r->runs};
+}
+
+uint64_t plain_feeds(uint32_t ticket, const uint8_t *bytes, size_t length, size_t times) {
+    struct hub h;
+    memset(&h, 0, sizeof h);
+    for (struct record *r = h.records; r < h.records + PLACES; r++) {
+        *r = (struct record){.words = {0x80808c0000000080u}, .ticket = ++h.issued, .feeding = 1};
+        run(r);
+    }
+    for (size_t i = 0; i < times; i++) feed(&h, ticket, bytes, length);
+    return feed(&h, ticket, bytes, 0).runs;
+}

@@ -32,6 +32,12 @@ uint64_t bench_sponge(const uint8_t *key, size_t key_length, const uint8_t *mess
  * Every byte of the tag is looked at, whatever the others are. */
 uint32_t bench_tag(const uint8_t *key, size_t key_length, const uint8_t *message, size_t message_length, const uint8_t *tag, size_t tag_length);
 
+/* Opens sixteen MAC tickets, 1 to 16, under a key of sixteen zero bytes in an empty hub; feeds `bytes` to `ticket` so many times; and gives the run count that a
+ * feed of no bytes to it then answers with, or 0 where that is refused. The first hands the hub from call to call by value; to the second it is one that stays in
+ * its memory. Both give the same. */
+uint64_t bench_feeds_by_value(uint32_t ticket, const uint8_t *bytes, size_t length, size_t times);
+uint64_t bench_feeds_in_place(uint32_t ticket, const uint8_t *bytes, size_t length, size_t times);
+
 #ifdef __cplusplus
 }
 #endif

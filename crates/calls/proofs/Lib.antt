@@ -15,3 +15,4 @@ pub mod Verdict
 pub mod Judging
 pub mod Boundaries
 pub mod Transcript
+pub mod Repeats

@@ -1,146 +1,144 @@
--- What each call gives, by where its ticket's record is: a refusal, or its further checks over that record.
+-- What each call gives. A call on a ticket gives what it makes of the ticket's record, put back: one law for all of them, over the call's own checks and what it does.
 -- Assumes nothing.
-use mathlib.Core.Bool.{Bool, true, false, not, _||_}
-use mathlib.Core.Path.{_≡_, ap, ap₂, _∙_}
-use mathlib.Core.List.{List, []}
-use Prim.Native.Nat.{ℕ, _+_, _≤_, _<_}
+use mathlib.Core.Bool.{Bool, true, false}
+use mathlib.Core.Path.{_≡_, refl, sym, ap, _∙_}
+use mathlib.Core.List.{List, [], _∷_, _++_}
+use Prim.Native.Nat.{ℕ, _+_, _≤_, _<_, _^_}
+use native.Mathlib.Omega.{arith}
 use borrow.Author.Tests.{le-leb, lt-leb}
-use lib.Dec.{eqb, ltb}
-use lib.ListN.{length, getD}
+use lib.Dec.{eqb}
+use lib.ListN.{length}
+use lib.Seq.{set-getD}
 use Rattle.mode.specs.declared.Mode.{Mode}
 use Rattle.mode.specs.declared.Named.{Named}
 use Rattle.mode.specs.declared.Named.the-variants.{Is, NoMode}
 use Rattle.sponge.specs.declared.record.Record.{Record}
-use Rattle.mode.specs.Mode.{row, numberOf, named}
+use Rattle.mode.specs.Mode.{row, named}
 use Rattle.sponge.specs.Record.{sum64, vacant, fresh, absorbed, finished, nextBytes, squeezed, tagMatches}
 use Rattle.calls.specs.declared.Answer.{Answer}
-use Rattle.calls.specs.Answer.{opened, counted, judged}
-use Rattle.checks.specs.Checks.{checked}
+use Rattle.calls.specs.Answer.{refused, opened, counted, judged}
+use Rattle.checks.specs.Checks.{OneCheck, checked}
 use Rattle.checks.specs.Buffers.{written}
-use Rattle.calls.specs.Checks.{mostIssued, mostFed, shortestTag, longestTag, Standing, openChecks, ticketChecks, feedOwn, feedChecks, drawOwn, drawChecks, checkOwn, checkChecks}
+use Rattle.checks.proofs.Checks.{checked-both}
+use Rattle.calls.specs.Checks.{mostIssued, Standing, openChecks, ticketChecks, feedOwn, feedChecks, drawOwn, drawChecks, checkOwn, checkChecks}
 use Rattle.calls.specs.Call.{Step, step, refuse}
+use Rattle.calls.proofs.Checks.{never-issued, is-closed, is-open}
 use Rattle.hub.specs.declared.Hub.{Hub}
 use Rattle.hub.specs.declared.Reply.{Reply}
-use Rattle.hub.specs.declared.places.Located.the-variants.{At, Refused}
-use Rattle.hub.specs.Hub.{placeOf, absent, noRecord, putAt, put, standingOf, located, admit, openHub, feedHub, drawHub, checkHub, closeHub, replyOf}
-use Rattle.hub.proofs.Locating.{located-refused, located-passed, located-place, located-record}
+use Rattle.hub.specs.declared.places.Located.{Located}
+use Rattle.hub.specs.declared.records.Worked.{Worked}
+use Rattle.hub.specs.Hub.{placeOf, absent, noRecord, recordOf, putAt, put, standingOf, admit, openHub, feedHub, drawHub, checkHub, closeHub, replyOf}
+use Rattle.hub.proofs.Locating.{located-never, located-closed, located-open}
+use Rattle.hub.specs.Records.{located, recordAt, standingAs, found, feedRecord, drawRecord, checkRecord, closeRecord}
 
--- what the checks of a call ask of an open ticket's record
-abbrev pub standingAs : Record → Standing
-standingAs r = record { issued = true; isOpen = true; mode = r .mode; feeding = r .feeding; fed = r .fed; drawn = r .drawn }
+-- ---- calls on a ticket
 
--- the record in a place
-abbrev pub recordAt : ℕ → Hub → Record
-recordAt p h = getD (h .records) p noRecord
+-- what a call made of the record in place p, put back there
+abbrev pub putBack : ℕ → Hub → Step Record → Step Hub
+putBack p h s = step (putAt p (s .after) h) (s .response .answer) (s .response .buffer)
 
+-- what the code gives back then
+abbrev pub replied : ℕ → Worked → Hub → Reply
+replied p w h = record { hub = putAt p (w .after) h; answer = w .answer }
+
+-- what was in place p, put back, leaves the hub as it was
+put-same : (p : ℕ) (h : Hub) → putAt p (recordAt p h) h ≡ h
+put-same p h i = record { records = set-getD (h .records) p noRecord i; issued = h .issued; closed = h .closed }
+
+-- an open ticket's standing is its record's
+as-record : (t : ℕ) (h : Hub) → standingOf t h .issued ≡ true → standingOf t h .isOpen ≡ true → standingOf t h ≡ standingAs (recordOf t h)
+unfolding standingOf
+as-record t h e o i =
+    record { issued = e i; isOpen = o i; mode = recordOf t h .mode; feeding = recordOf t h .feeding; fed = recordOf t h .fed; drawn = recordOf t h .drawn }
+
+-- over the call's own checks, what it makes of the record, its answer, and the buffer before it and after
+module _ (own : Standing → List OneCheck) (made : Record → Record) (answer : Record → Answer) (before : List ℕ) (buffer : Record → List ℕ) where
+  abbrev onRecord : ℕ → Record → Step Record
+  onRecord n r = checked (refuse r before) (found n ∷ own (standingAs r)) (step (made r) (answer r) (buffer r))
+
+  abbrev onTicket : ℕ → Hub → Step Hub
+  onTicket t h =
+      checked (refuse h before) (ticketChecks (standingOf t h) ++ own (standingOf t h))
+      (step (put t (made (recordOf t h)) h) (answer (recordOf t h)) (buffer (recordOf t h)))
+
+  module _ (t : ℕ) (h : Hub) where
+    -- at a place, after the checks 11 and 12
+    abbrev atPlace : Located → Step Hub
+    atPlace l = putBack (l .place) h (onRecord (l .refusal) (recordAt (l .place) h))
+
+    -- an open ticket's own checks
+    own-checks : standingOf t h .issued ≡ true → standingOf t h .isOpen ≡ true
+        → checked (refuse h before) (own (standingOf t h)) (step (put t (made (recordOf t h)) h) (answer (recordOf t h)) (buffer (recordOf t h)))
+        ≡ atPlace (record { refusal = 0; place = placeOf t h })
+    unfolding put recordOf
+    own-checks e o =
+        ap (λ (s : Standing). checked (refuse h before) (own s) (putBack (placeOf t h) h (step (made r) (answer r) (buffer r)))) (as-record t h e o)
+        ∙ checked-both (λ (x : Step Hub) (y : Step Record). x ≡ putBack (placeOf t h) h y) (own (standingAs r)) (refuse h before) (refuse r before)
+        _ (step (made r) (answer r) (buffer r)) (λ n. ap (λ (g : Hub). refuse g before n) (sym (put-same (placeOf t h) h))) (λ pass. refl)
+      where
+        r : Record
+        r = recordOf t h
+
+    by-standing : (issued isOpen : Bool) → standingOf t h .issued ≡ issued → standingOf t h .isOpen ≡ isOpen → onTicket t h ≡ atPlace (located t h)
+    by-standing false isOpen e o =
+        never-issued (refuse h before) (standingOf t h) (own (standingOf t h)) _ e ∙ ap (λ (g : Hub). refuse g before 11) (sym (put-same 0 h)) ∙ ap atPlace (sym (located-never t h e))
+    by-standing true false e o =
+        is-closed (refuse h before) (standingOf t h) (own (standingOf t h)) _ e o ∙ ap (λ (g : Hub). refuse g before 12) (sym (put-same 0 h)) ∙ ap atPlace (sym (located-closed t h e o))
+    by-standing true true e o =
+        is-open (refuse h before) (standingOf t h) (own (standingOf t h)) _ e o ∙ own-checks e o ∙ ap atPlace (sym (located-open t h e o))
+
+    pub by-record : onTicket t h ≡ atPlace (located t h)
+    by-record = by-standing (standingOf t h .issued) (standingOf t h .isOpen) refl refl
+
+-- the calls themselves, by where the record is
 module _ (t : ℕ) (h : Hub) where
-  -- ---- feed
+  abbrev place : ℕ
+  place = located t h .place
 
-  module _ (bytes : List ℕ) where
-    pub feed-refused : (n : ℕ) → located t h ≡ Refused n → feedHub t bytes h ≡ refuse h [] n
-    unfolding feedHub feedChecks
-    feed-refused n e = located-refused t h n e (refuse h []) _ _
+  abbrev number : ℕ
+  number = located t h .refusal
 
-    abbrev pub feedAt : ℕ → Record → Step Hub
-    feedAt p r =
-        checked (refuse h []) (feedOwn (standingAs r) bytes)
-        (step (putAt p (absorbed bytes r) h) (counted (absorbed bytes r .runs)) [])
+  abbrev there : Record
+  there = recordAt place h
 
-    module _ (p : ℕ) (e : located t h ≡ At p) where
-      feed-found : feedHub t bytes h ≡ feedAt p (recordAt p h)
-      unfolding feedHub feedChecks feedOwn put standingOf
-      feed-found = located-passed t h p e (refuse h []) _ _ ∙ ap₂ feedAt (located-place t h p e) (located-record t h p e)
+  pub feed-is : (bytes : List ℕ) → feedHub t bytes h ≡ putBack place h (feedRecord number bytes there)
+  unfolding feedHub feedChecks feedRecord
+  feed-is bytes = by-record (λ s. feedOwn s bytes) (absorbed bytes) (λ r. counted (absorbed bytes r .runs)) [] (λ r. []) t h
 
-      pub feed-15 : not (recordAt p h .feeding) ≡ true → feedHub t bytes h ≡ refuse h [] 15
-      unfolding feedOwn
-      feed-15 e15 = feed-found ∙ rw e15
+  pub draw-is : (buffer : List ℕ) (from count : ℕ) → drawHub t buffer from count h ≡ putBack place h (drawRecord number buffer from count there)
+  unfolding drawHub drawChecks drawRecord
+  draw-is buffer from count =
+      by-record (λ s. drawOwn s buffer from count) (λ r. squeezed count (finished r)) (λ r. counted (squeezed count (finished r) .runs)) buffer
+      (λ r. written buffer from (nextBytes count (finished r))) t h
 
-      pub feed-16 : not (recordAt p h .feeding) ≡ false → ltb mostFed (recordAt p h .fed + length bytes) ≡ true → feedHub t bytes h ≡ refuse h [] 16
-      unfolding feedOwn
-      feed-16 e15 e16 = feed-found ∙ rw (e15, e16)
+  pub check-is : (tag : List ℕ) → checkHub t tag h ≡ putBack place h (checkRecord number tag there)
+  unfolding checkHub checkChecks checkRecord
+  check-is tag = by-record (λ s. checkOwn s tag) finished (λ r. judged (tagMatches tag (finished r)) (finished r .runs)) [] (λ r. []) t h
 
-      pub feed-done : not (recordAt p h .feeding) ≡ false → ltb mostFed (recordAt p h .fed + length bytes) ≡ false
-          → (r : Record) → r ≡ absorbed bytes (recordAt p h) → feedHub t bytes h ≡ step (putAt p r h) (counted (r .runs)) []
-      unfolding feedOwn
-      feed-done e15 e16 r er = feed-found ∙ rw (e15, e16, er)
+-- close keeps the record's runs for the sum, and on a refused call the sum as it is, which has 64 bits
+module _ (t : ℕ) (h : Hub) (fits : h .closed < 2 ^ 64) where
+  abbrev closeAt : ℕ → Step Record → Step Hub
+  closeAt p s =
+      step (record { records = putAt p (s .after) h .records; issued = h .issued; closed = sum64 (h .closed) (s .response .answer .runs) }) (s .response .answer) []
 
-  -- ---- draw
+  abbrev closeBy : Located → Step Hub
+  closeBy l = closeAt (l .place) (closeRecord (l .refusal) (recordAt (l .place) h))
 
-  module _ (buffer : List ℕ) (place count : ℕ) where
-    pub draw-refused : (n : ℕ) → located t h ≡ Refused n → drawHub t buffer place count h ≡ refuse h buffer n
-    unfolding drawHub drawChecks
-    draw-refused n e = located-refused t h n e (refuse h buffer) _ _
+  nothing-more : sum64 (h .closed) 0 ≡ h .closed
+  unfolding sum64
+  nothing-more = omega (arith, fits)
 
-    abbrev pub drawAt : ℕ → Record → Step Hub
-    drawAt p r =
-        checked (refuse h buffer) (drawOwn (standingAs r) buffer place count)
-        (step (putAt p (squeezed count (finished r)) h) (counted (squeezed count (finished r) .runs)) (written buffer place (nextBytes count (finished r))))
+  kept : (n : ℕ) → refuse h [] n ≡ closeAt 0 (refuse (recordAt 0 h) [] n)
+  kept n = sym (λ i. step (record { records = put-same 0 h i .records; issued = h .issued; closed = nothing-more i }) (refused n) [])
 
-    module _ (p : ℕ) (e : located t h ≡ At p) where
-      draw-found : drawHub t buffer place count h ≡ drawAt p (recordAt p h)
-      unfolding drawHub drawChecks drawOwn put standingOf
-      draw-found = located-passed t h p e (refuse h buffer) _ _ ∙ ap₂ drawAt (located-place t h p e) (located-record t h p e)
+  close-by : (issued isOpen : Bool) → standingOf t h .issued ≡ issued → standingOf t h .isOpen ≡ isOpen → closeHub t h ≡ closeBy (located t h)
+  unfolding closeHub closeRecord put recordOf ticketChecks
+  close-by false isOpen e o = never-issued (refuse h []) (standingOf t h) [] _ e ∙ kept 11 ∙ ap closeBy (sym (located-never t h e))
+  close-by true false e o = is-closed (refuse h []) (standingOf t h) [] _ e o ∙ kept 12 ∙ ap closeBy (sym (located-closed t h e o))
+  close-by true true e o = is-open (refuse h []) (standingOf t h) [] _ e o ∙ ap closeBy (sym (located-open t h e o))
 
-      pub draw-3 : ltb (length buffer) (place + count) ≡ true → drawHub t buffer place count h ≡ refuse h buffer 3
-      unfolding drawOwn
-      draw-3 e3 = draw-found ∙ rw e3
-
-      pub draw-17 : ltb (length buffer) (place + count) ≡ false → ltb (row (recordAt p h .mode) .mostDrawn) (recordAt p h .drawn + count) ≡ true
-          → drawHub t buffer place count h ≡ refuse h buffer 17
-      unfolding drawOwn
-      draw-17 e3 e17 = draw-found ∙ rw (e3, e17)
-
-      pub draw-done : ltb (length buffer) (place + count) ≡ false → ltb (row (recordAt p h .mode) .mostDrawn) (recordAt p h .drawn + count) ≡ false
-          → (r : Record) (bytes : List ℕ) → r ≡ squeezed count (finished (recordAt p h)) → bytes ≡ nextBytes count (finished (recordAt p h))
-          → drawHub t buffer place count h ≡ step (putAt p r h) (counted (r .runs)) (written buffer place bytes)
-      unfolding drawOwn
-      draw-done e3 e17 r bytes er eb = draw-found ∙ rw (e3, e17, er, eb)
-
-  -- ---- check
-
-  module _ (tag : List ℕ) where
-    pub check-refused : (n : ℕ) → located t h ≡ Refused n → checkHub t tag h ≡ refuse h [] n
-    unfolding checkHub checkChecks
-    check-refused n e = located-refused t h n e (refuse h []) _ _
-
-    abbrev pub checkAt : ℕ → Record → Step Hub
-    checkAt p r =
-        checked (refuse h []) (checkOwn (standingAs r) tag)
-        (step (putAt p (finished r) h) (judged (tagMatches tag (finished r)) (finished r .runs)) [])
-
-    module _ (p : ℕ) (e : located t h ≡ At p) where
-      check-found : checkHub t tag h ≡ checkAt p (recordAt p h)
-      unfolding checkHub checkChecks checkOwn put standingOf
-      check-found = located-passed t h p e (refuse h []) _ _ ∙ ap₂ checkAt (located-place t h p e) (located-record t h p e)
-
-      pub check-18 : not (eqb (numberOf (recordAt p h .mode)) 2) ≡ true → checkHub t tag h ≡ refuse h [] 18
-      unfolding checkOwn
-      check-18 e18 = check-found ∙ rw e18
-
-      pub check-4 : not (eqb (numberOf (recordAt p h .mode)) 2) ≡ false → ltb (length tag) shortestTag || ltb longestTag (length tag) ≡ true
-          → checkHub t tag h ≡ refuse h [] 4
-      unfolding checkOwn
-      check-4 e18 e4 = check-found ∙ rw (e18, e4)
-
-      pub check-done : not (eqb (numberOf (recordAt p h .mode)) 2) ≡ false → ltb (length tag) shortestTag || ltb longestTag (length tag) ≡ false
-          → (r : Record) (passed : Bool) → r ≡ finished (recordAt p h) → passed ≡ tagMatches tag r
-          → checkHub t tag h ≡ step (putAt p r h) (judged passed (r .runs)) []
-      unfolding checkOwn
-      check-done e18 e4 r passed er ep = check-found ∙ rw (e18, e4, ep, er)
-
-  -- ---- close
-
-  pub close-refused : (n : ℕ) → located t h ≡ Refused n → closeHub t h ≡ refuse h [] n
-  unfolding closeHub ticketChecks
-  close-refused n e = located-refused t h n e (refuse h []) [] _
-
-  abbrev pub closeAt : ℕ → Record → Step Hub
-  closeAt p r =
-      step (record { records = putAt p vacant h .records; issued = h .issued; closed = sum64 (h .closed) (r .runs) }) (counted (r .runs)) []
-
-  pub close-done : (p : ℕ) → located t h ≡ At p → closeHub t h ≡ closeAt p (recordAt p h)
-  unfolding closeHub ticketChecks put
-  close-done p e = located-passed t h p e (refuse h []) [] _ ∙ ap₂ closeAt (located-place t h p e) (located-record t h p e)
+  pub close-is : closeHub t h ≡ closeAt (located t h .place) (closeRecord (located t h .refusal) (recordAt (located t h .place) h))
+  close-is = close-by (standingOf t h .issued) (standingOf t h .isOpen) refl refl
 
 -- ---- open
 

@@ -1,5 +1,8 @@
 pub mod Locating
+pub mod RecordCalls
 pub mod Calls
+pub mod InPlace
+pub mod Lending
 pub mod Model
 pub mod Tickets
 pub mod Represents

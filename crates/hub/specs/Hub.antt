@@ -17,8 +17,6 @@ use Rattle.checks.specs.Buffers.{written}
 use Rattle.calls.specs.Checks.{mostOpen, Standing, openChecks, ticketChecks, feedChecks, drawChecks, checkChecks}
 use Rattle.calls.specs.Call.{Call, Open, Feed, Draw, Check, Close, Sum, Step, step, refuse}
 use Rattle.calls.specs.Keyed.{find, total}
-use Rattle.hub.specs.declared.places.Located.{Located}
-use Rattle.hub.specs.declared.places.Located.the-variants.{At, Refused}
 use Rattle.hub.specs.declared.Hub.{Hub}
 use Rattle.hub.specs.declared.Reply.{Reply}
 
@@ -57,19 +55,6 @@ unfoldable pub standingOf : ℕ → Hub → Standing
 standingOf t h =
     let r : Record = recordOf t h in
     record { issued = not (eqb t 0) && leb t (h .issued); isOpen = not (absent t h); mode = r .mode; feeding = r .feeding; fed = r .fed; drawn = r .drawn }
-
--- where a ticket's record is, or the check that fails: 11, 12
-unfoldable pub located : ℕ → Hub → Located
-located t h = checked (λ (n : ℕ). Refused n) (ticketChecks (standingOf t h)) (At (placeOf t h))
-
--- the refusal that such an answer stands for, 0 being none
-abbrev pub refusalOf : Located → ℕ
-refusalOf (At place) = 0
-refusalOf (Refused number) = number
-
--- the number of the check that fails, 0 if none does
-unfoldable pub ticketRefusal : ℕ → Hub → ℕ
-ticketRefusal t h = checked (λ (n : ℕ). n) (ticketChecks (standingOf t h)) 0
 
 -- ---- the calls
 

@@ -1,2 +1,3 @@
 pub mod Hub
+pub mod Records
 pub mod Law

@@ -1,21 +1,26 @@
 // The hub: sixteen places for the records of open tickets, and the six calls of document 01's "Tickets". A call takes the hub by value and gives it back in its
-// reply. Nothing else writes the hub's fields.
+// reply; `in_place` has feed and close on a hub that stays in its memory. Nothing else writes the hub's fields.
+//
+// A call on a ticket finds the place of its record, works on the record (`records`), and puts it back; a refused call puts back what it found. So there is one way
+// through a call, and no more of the hub is written than one record.
+
+pub mod in_place;
 mod places;
+mod records;
 
 use calls::Answer;
 use mode::Mode;
 use mode::Named;
-use places::Located;
 use places::find;
 use places::locate;
+use records::check_record;
+use records::close_record;
+use records::draw_record;
+use records::feed_record;
 use sponge::Record;
 ghost use mathlib.Core.Path.{_≡_};
-ghost use mathlib.Core.Bool.{_||_};
 ghost use mathlib.Core.List.{[]};
-ghost use Prim.Native.Nat.{_<_};
-ghost use lib.Dec.{ltb};
 ghost use Rattle.calls.specs.Call as call;
-ghost use Rattle.calls.specs.Checks.{shortestTag, longestTag};
 ghost use Rattle.hub.specs.Hub as spec;
 
 pub struct Hub {
@@ -69,16 +74,6 @@ impl Hub {
             answer: Answer::refused(number),
         }
     }
-
-    // Another record in a place.
-    fn put(self, place: usize, after: Record) -> Hub
-        requires { ⌜ place < 16 ⌝ }
-        ensures { λ r. ⌜ r ≡ spec.putAt place after self ⌝ }
-    {
-        let mut hub = self;
-        hub.records[place] = after;
-        hub
-    }
 }
 
 // Checks 1, 2, 14, 13. The new ticket's record goes to the first free place.
@@ -100,7 +95,8 @@ pub fn open(hub: Hub, mode: u32, key: &[u8]) -> Reply
     }
     let ticket = hub.issued + 1;
     let fresh = Record::fresh(ticket, named, key);
-    let mut after = hub.put(place, fresh);
+    let mut after = hub;
+    after.records[place] = fresh;
     after.issued = ticket;
     Reply {
         hub: after,
@@ -112,22 +108,17 @@ pub fn open(hub: Hub, mode: u32, key: &[u8]) -> Reply
 pub fn feed(hub: Hub, ticket: u32, bytes: &[u8]) -> Reply
     ensures { λ r. ⌜ r ≡ spec.replyOf (spec.feedHub ticket (now (bytes .entry)) hub) ⌝ }
 {
-    match locate(hub, ticket) {
-        Located::Refused(number) => hub.refuse(number),
-        Located::At(place) => {
-            let before = hub.records[place];
-            if !before.feeding() {
-                return hub.refuse(15);
-            }
-            if checks::exceeds(Hub::MOST_FED, before.fed(), bytes.len() as u64) {
-                return hub.refuse(16);
-            }
-            let after = before.absorb(bytes);
-            Reply {
-                hub: hub.put(place, after),
-                answer: Answer::counted(after.runs()),
-            }
-        }
+    let located = locate(hub, ticket);
+    let place = located.place;
+    let mut after = hub;
+    let before = after.records[place];
+    let fed = feed_record(located.refusal, before, bytes);
+    let record = fed.after;
+    after.records[place] = record;
+    let answer = fed.answer;
+    Reply {
+        hub: after,
+        answer: answer,
     }
 }
 
@@ -136,57 +127,35 @@ pub fn draw(hub: Hub, ticket: u32, buffer: &mut [u8], place: usize, count: usize
     ensures reply { λ r. ⌜ r ≡ spec.replyOf (spec.drawHub ticket (now (buffer .entry)) place count hub) ⌝ }
     ensures written { λ r. ⌜ now (buffer .exit) ≡ spec.drawHub ticket (now (buffer .entry)) place count hub .response .buffer ⌝ }
 {
-    match locate(hub, ticket) {
-        Located::Refused(number) => hub.refuse(number),
-        Located::At(at) => {
-            if checks::exceeds(buffer.len() as u64, place as u64, count as u64) {
-                return hub.refuse(3);
-            }
-            let before = hub.records[at];
-            let mode = before.mode();
-            if checks::exceeds(mode.most_drawn() as u64, before.drawn(), count as u64) {
-                return hub.refuse(17);
-            }
-            let ended = before.finish();
-            let end = place + count;
-            let after = ended.squeeze(&mut buffer[place..end]);
-            Reply {
-                hub: hub.put(at, after),
-                answer: Answer::counted(after.runs()),
-            }
-        }
+    let located = locate(hub, ticket);
+    let at = located.place;
+    let mut after = hub;
+    let before = after.records[at];
+    let drawn = draw_record(located.refusal, before, buffer, place, count);
+    let record = drawn.after;
+    after.records[at] = record;
+    let answer = drawn.answer;
+    Reply {
+        hub: after,
+        answer: answer,
     }
-}
-
-// Whether no tag has this length.
-fn wrong_tag_length(length: usize) -> bool
-    ensures { λ r. ⌜ r ≡ ltb length shortestTag || ltb longestTag length ⌝ }
-{
-    length < Hub::SHORTEST_TAG || Hub::LONGEST_TAG < length
 }
 
 // Checks 11, 12, 18, 4. Ends feeding, and draws nothing.
 pub fn check(hub: Hub, ticket: u32, tag: &[u8]) -> Reply
     ensures { λ r. ⌜ r ≡ spec.replyOf (spec.checkHub ticket (now (tag .entry)) hub) ⌝ }
 {
-    match locate(hub, ticket) {
-        Located::Refused(number) => hub.refuse(number),
-        Located::At(place) => {
-            let before = hub.records[place];
-            let mode = before.mode();
-            if mode.number() != Hub::TAG_MODE {
-                return hub.refuse(18);
-            }
-            if wrong_tag_length(tag.len()) {
-                return hub.refuse(4);
-            }
-            let after = before.finish();
-            let passed = after.tag_matches(tag);
-            Reply {
-                hub: hub.put(place, after),
-                answer: Answer::judged(passed, after.runs()),
-            }
-        }
+    let located = locate(hub, ticket);
+    let place = located.place;
+    let mut after = hub;
+    let before = after.records[place];
+    let checked = check_record(located.refusal, before, tag);
+    let record = checked.after;
+    after.records[place] = record;
+    let answer = checked.answer;
+    Reply {
+        hub: after,
+        answer: answer,
     }
 }
 
@@ -194,18 +163,18 @@ pub fn check(hub: Hub, ticket: u32, tag: &[u8]) -> Reply
 pub fn close(hub: Hub, ticket: u32) -> Reply
     ensures { λ r. ⌜ r ≡ spec.replyOf (spec.closeHub ticket hub) ⌝ }
 {
-    match locate(hub, ticket) {
-        Located::Refused(number) => hub.refuse(number),
-        Located::At(place) => {
-            let before = hub.records[place];
-            let runs = before.runs();
-            let mut after = hub.put(place, Record::vacant());
-            after.closed = std::num::wrapping_add_u64(hub.closed, runs);
-            Reply {
-                hub: after,
-                answer: Answer::counted(runs),
-            }
-        }
+    let located = locate(hub, ticket);
+    let place = located.place;
+    let mut after = hub;
+    let before = after.records[place];
+    let closed = close_record(located.refusal, before);
+    let record = closed.after;
+    after.records[place] = record;
+    let answer = closed.answer;
+    after.closed = std::num::wrapping_add_u64(after.closed, answer.runs);
+    Reply {
+        hub: after,
+        answer: answer,
     }
 }
 

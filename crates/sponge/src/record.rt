@@ -12,12 +12,12 @@ pub struct Record {
     words: [u64; 5],
     // the runs made so far
     runs: u64,
-    // the ticket's number; 0 in a place that no ticket has
-    ticket: u32,
-    mode: Mode,
     // bytes fed, and bytes drawn
     fed: u64,
     drawn: u64,
+    // the ticket's number; 0 in a place that no ticket has
+    ticket: u32,
+    mode: Mode,
     // whether feeding lasts
     feeding: bool,
 }

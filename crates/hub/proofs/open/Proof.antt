@@ -1,5 +1,5 @@
 use mathlib.Core.Bool.{true}
-use mathlib.Core.Path.{_≡_, sym, ap, _∙_}
+use mathlib.Core.Path.{_≡_, refl, sym, ap, _∙_}
 use native.Mathlib.Omega.{arith}
 use borrow.Author.Needs.{needs}
 use borrow.Author.Tests.{eq-eqb, ne-eqb}
@@ -74,8 +74,11 @@ add-ticket c = search needs
 fresh-requires : tie.Need-fresh-requires
 fresh-requires c κs = search needs
 
-put-requires : tie.Need-put-requires
-put-requires c κs = search needs
+mul-fresh : tie.Need-mul-fresh
+mul-fresh c = search needs
+
+element-set-from-fresh : tie.Need-element-set-from-fresh
+element-set-from-fresh c = search needs
 
 runs-requires : tie.Need-runs-requires
 runs-requires c κs = search needs
@@ -85,9 +88,9 @@ opened-requires c κs = search needs
 
 returns-5 : tie.Need-returns-5
 returns-5 c =
-    let room = absent-within _ _ _ (c .before .before .before .before .before .before .find .ensures) (omega (arith, long (c .before .before .before .before .before .before))) in
-    open-done _ _ _ _ (is-mode (c .before .before .before .before .before .before .before .before .before .before .before .before)) (right-key (c .before .before .before .before .before .before .before .before .before)) (omega (arith, c .before .before .before .before .before .before .before .if2 .left)) room _ (c .before .before .before .before .before .before .find .ensures) _ (c .before .before .before .fresh .ensures)
-    _ _ (c .before .before .put .ensures) (c .opened .ensures ∙ ap (opened _) (c .before .runs .ensures))
+    let room = absent-within _ _ _ (c .before .before .before .before .before .find .ensures) (omega (arith, long (c .before .before .before .before .before))) in
+    open-done _ _ _ _ (is-mode (c .before .before .before .before .before .before .before .before .before .before .before)) (right-key (c .before .before .before .before .before .before .before .before)) (omega (arith, c .before .before .before .before .before .before .if2 .left)) room _ (c .before .before .before .before .before .find .ensures) _ (c .before .before .fresh .ensures)
+    _ _ refl (c .opened .ensures ∙ ap (opened _) (c .before .runs .ensures))
 
 pub open-spec : {M : Type 1} → statement M
 open-spec =
@@ -108,7 +111,8 @@ open-spec =
     returns-4
     add-ticket
     fresh-requires
-    put-requires
+    mul-fresh
+    element-set-from-fresh
     runs-requires
     opened-requires
     returns-5)

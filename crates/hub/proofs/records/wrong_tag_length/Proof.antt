@@ -1,6 +1,6 @@
 use borrow.Author.Tests.{lt-ltb, le-ltb}
-use Rattle.hub.proofs.wrong_tag_length.Statement.{statement}
-use Rattle.hub.proofs.wrong_tag_length.Tie as tie
+use Rattle.hub.proofs.records.wrong_tag_length.Statement.{statement}
+use Rattle.hub.proofs.records.wrong_tag_length.Tie as tie
 
 returns : tie.Need-returns
 returns c = let e = lt-ltb _ _ (c .if1 .taken) in rw e

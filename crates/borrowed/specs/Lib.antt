@@ -1,0 +1,3 @@
+pub mod Borrows
+pub mod Elements
+pub mod Results

@@ -1,0 +1,92 @@
+-- What a call makes of its ticket's record, by which of its checks fails first.
+-- Assumes nothing.
+use mathlib.Core.Bool.{Bool, true, false, not, _||_}
+use mathlib.Core.Path.{_≡_}
+use mathlib.Core.List.{List, []}
+use mathlib.Core.Logic.{_≢_}
+use Prim.Native.Nat.{ℕ, _+_}
+use borrow.Author.Tests.{ne-eqb}
+use lib.Dec.{eqb, ltb}
+use lib.ListN.{length}
+use Rattle.sponge.specs.declared.record.Record.{Record}
+use Rattle.mode.specs.Mode.{row, numberOf}
+use Rattle.sponge.specs.Record.{vacant, absorbed, finished, nextBytes, squeezed, tagMatches}
+use Rattle.calls.specs.Answer.{counted, judged}
+use Rattle.checks.specs.Buffers.{written}
+use Rattle.calls.specs.Checks.{mostFed, shortestTag, longestTag, feedOwn, drawOwn, checkOwn}
+use Rattle.calls.specs.Call.{step, refuse}
+use Rattle.hub.specs.Records.{feedRecord, drawRecord, checkRecord, closeRecord}
+
+module _ (n : ℕ) (r : Record) where
+  -- ---- feed
+
+  module _ (bytes : List ℕ) where
+    pub feed-found : n ≢ 0 → feedRecord n bytes r ≡ refuse r [] n
+    unfolding feedRecord
+    feed-found e = rw (ne-eqb n 0 e)
+
+    module _ (e : n ≡ 0) where
+      pub feed-15 : not (r .feeding) ≡ true → feedRecord n bytes r ≡ refuse r [] 15
+      unfolding feedRecord feedOwn
+      feed-15 e15 = rw (e, e15)
+
+      pub feed-16 : not (r .feeding) ≡ false → ltb mostFed (r .fed + length bytes) ≡ true → feedRecord n bytes r ≡ refuse r [] 16
+      unfolding feedRecord feedOwn
+      feed-16 e15 e16 = rw (e, e15, e16)
+
+      pub feed-done : not (r .feeding) ≡ false → ltb mostFed (r .fed + length bytes) ≡ false → feedRecord n bytes r ≡ step (absorbed bytes r) (counted (absorbed bytes r .runs)) []
+      unfolding feedRecord feedOwn
+      feed-done e15 e16 = rw (e, e15, e16)
+
+  -- ---- draw
+
+  module _ (buffer : List ℕ) (place count : ℕ) where
+    pub draw-found : n ≢ 0 → drawRecord n buffer place count r ≡ refuse r buffer n
+    unfolding drawRecord
+    draw-found e = rw (ne-eqb n 0 e)
+
+    module _ (e : n ≡ 0) where
+      pub draw-3 : ltb (length buffer) (place + count) ≡ true → drawRecord n buffer place count r ≡ refuse r buffer 3
+      unfolding drawRecord drawOwn
+      draw-3 e3 = rw (e, e3)
+
+      pub draw-17 : ltb (length buffer) (place + count) ≡ false → ltb (row (r .mode) .mostDrawn) (r .drawn + count) ≡ true → drawRecord n buffer place count r ≡ refuse r buffer 17
+      unfolding drawRecord drawOwn
+      draw-17 e3 e17 = rw (e, e3, e17)
+
+      pub draw-done : ltb (length buffer) (place + count) ≡ false → ltb (row (r .mode) .mostDrawn) (r .drawn + count) ≡ false
+          → drawRecord n buffer place count r
+          ≡ step (squeezed count (finished r)) (counted (squeezed count (finished r) .runs)) (written buffer place (nextBytes count (finished r)))
+      unfolding drawRecord drawOwn
+      draw-done e3 e17 = rw (e, e3, e17)
+
+  -- ---- check
+
+  module _ (tag : List ℕ) where
+    pub check-found : n ≢ 0 → checkRecord n tag r ≡ refuse r [] n
+    unfolding checkRecord
+    check-found e = rw (ne-eqb n 0 e)
+
+    module _ (e : n ≡ 0) where
+      pub check-18 : not (eqb (numberOf (r .mode)) 2) ≡ true → checkRecord n tag r ≡ refuse r [] 18
+      unfolding checkRecord checkOwn
+      check-18 e18 = rw (e, e18)
+
+      pub check-4 : not (eqb (numberOf (r .mode)) 2) ≡ false → ltb (length tag) shortestTag || ltb longestTag (length tag) ≡ true → checkRecord n tag r ≡ refuse r [] 4
+      unfolding checkRecord checkOwn
+      check-4 e18 e4 = rw (e, e18, e4)
+
+      pub check-done : not (eqb (numberOf (r .mode)) 2) ≡ false → ltb (length tag) shortestTag || ltb longestTag (length tag) ≡ false
+          → checkRecord n tag r ≡ step (finished r) (judged (tagMatches tag (finished r)) (finished r .runs)) []
+      unfolding checkRecord checkOwn
+      check-done e18 e4 = rw (e, e18, e4)
+
+  -- ---- close
+
+  pub close-found : n ≢ 0 → closeRecord n r ≡ refuse r [] n
+  unfolding closeRecord
+  close-found e = rw (ne-eqb n 0 e)
+
+  pub close-done : n ≡ 0 → closeRecord n r ≡ step vacant (counted (r .runs)) []
+  unfolding closeRecord
+  close-done e = rw e

@@ -1,0 +1,123 @@
+// What each call on a ticket makes of the ticket's record. `refusal` is what the checks 11 and 12 found, 0 where both pass; a call's own checks follow. A refused call
+// leaves the record as it was.
+use super::Hub;
+use calls::Answer;
+use sponge::Record;
+ghost use mathlib.Core.Path.{_≡_};
+ghost use mathlib.Core.Bool.{_||_};
+ghost use mathlib.Core.List.{[]};
+ghost use lib.Dec.{ltb};
+ghost use Rattle.calls.specs.Call as call;
+ghost use Rattle.calls.specs.Checks.{shortestTag, longestTag};
+ghost use Rattle.hub.specs.Records as spec;
+
+// A record after a call, and the call's answer.
+pub struct Worked {
+    pub after: Record,
+    pub answer: Answer,
+}
+
+impl Worked {
+    fn refused(before: Record, number: u32) -> Worked
+        ensures { λ r. ⌜ r ≡ spec.workedOf (call.refuse before [] number) ⌝ }
+    {
+        Worked {
+            after: before,
+            answer: Answer::refused(number),
+        }
+    }
+
+    // An accepted feed or draw.
+    fn counted(after: Record) -> Worked
+        ensures { λ r. ⌜ r ≡ spec.counting after ⌝ }
+    {
+        Worked {
+            after: after,
+            answer: Answer::counted(after.runs()),
+        }
+    }
+}
+
+// Feed: 15, 16.
+pub fn feed_record(refusal: u32, before: Record, bytes: &[u8]) -> Worked
+    ensures { λ r. ⌜ r ≡ spec.workedOf (spec.feedRecord refusal (now (bytes .entry)) before) ⌝ }
+{
+    if refusal != 0 {
+        return Worked::refused(before, refusal);
+    }
+    if !before.feeding() {
+        return Worked::refused(before, 15);
+    }
+    if checks::exceeds(Hub::MOST_FED, before.fed(), bytes.len() as u64) {
+        return Worked::refused(before, 16);
+    }
+    Worked::counted(before.absorb(bytes))
+}
+
+// Draw: 3, 17.
+pub fn draw_record(
+    refusal: u32,
+    before: Record,
+    buffer: &mut [u8],
+    place: usize,
+    count: usize,
+) -> Worked
+    ensures worked { λ r. ⌜ r ≡ spec.workedOf (spec.drawRecord refusal (now (buffer .entry)) place count before) ⌝ }
+    ensures written { λ r. ⌜ now (buffer .exit) ≡ spec.drawRecord refusal (now (buffer .entry)) place count before .response .buffer ⌝ }
+{
+    if refusal != 0 {
+        return Worked::refused(before, refusal);
+    }
+    if checks::exceeds(buffer.len() as u64, place as u64, count as u64) {
+        return Worked::refused(before, 3);
+    }
+    let mode = before.mode();
+    if checks::exceeds(mode.most_drawn() as u64, before.drawn(), count as u64) {
+        return Worked::refused(before, 17);
+    }
+    let ended = before.finish();
+    let end = place + count;
+    Worked::counted(ended.squeeze(&mut buffer[place..end]))
+}
+
+// Whether no tag has this length.
+fn wrong_tag_length(length: usize) -> bool
+    ensures { λ r. ⌜ r ≡ ltb length shortestTag || ltb longestTag length ⌝ }
+{
+    length < Hub::SHORTEST_TAG || Hub::LONGEST_TAG < length
+}
+
+// Check: 18, 4.
+pub fn check_record(refusal: u32, before: Record, tag: &[u8]) -> Worked
+    ensures { λ r. ⌜ r ≡ spec.workedOf (spec.checkRecord refusal (now (tag .entry)) before) ⌝ }
+{
+    if refusal != 0 {
+        return Worked::refused(before, refusal);
+    }
+    let mode = before.mode();
+    if mode.number() != Hub::TAG_MODE {
+        return Worked::refused(before, 18);
+    }
+    if wrong_tag_length(tag.len()) {
+        return Worked::refused(before, 4);
+    }
+    let after = before.finish();
+    let passed = after.tag_matches(tag);
+    Worked {
+        after: after,
+        answer: Answer::judged(passed, after.runs()),
+    }
+}
+
+// Close: none. A vacant record stays, which has nothing of the state.
+pub fn close_record(refusal: u32, before: Record) -> Worked
+    ensures { λ r. ⌜ r ≡ spec.workedOf (spec.closeRecord refusal before) ⌝ }
+{
+    if refusal != 0 {
+        return Worked::refused(before, refusal);
+    }
+    Worked {
+        after: Record::vacant(),
+        answer: Answer::counted(before.runs()),
+    }
+}
