@@ -1,5 +1,6 @@
 //! Ascon, written from the papers for comparison alone: slow, bit place by bit place, and sharing nothing with the code under test.
 
+pub mod listing;
 pub mod machine;
 pub mod script;
 

@@ -1,0 +1,67 @@
+use borrow.Author.Needs.{needs}
+use mathlib.Core.Path.{ap, _∙_}
+use mathlib.Core.List.{[]}
+use lib.ListN.{replicate}
+use Rattle.calls.specs.Call.{Open, final}
+use Rattle.hub.specs.declared.Hub.{Hub}
+use Rattle.hub.specs.Hub.{onHub}
+use Rattle.mainloop.specs.Rounds.{sixteen}
+use Rattle.mainloop.proofs.begin.Statement.{statement}
+use Rattle.mainloop.proofs.begin.Tie as tie
+
+slice-aggregate-write-all : tie.Need-slice-aggregate-write-all
+slice-aggregate-write-all c = search needs
+
+write-all-requires : tie.Need-write-all-requires
+write-all-requires c κs = search needs
+
+empty-requires : tie.Need-empty-requires
+empty-requires c κs = search needs
+
+open-eight-requires : tie.Need-open-eight-requires
+open-eight-requires c κs = search needs
+
+slice-aggregate-open-eight : tie.Need-slice-aggregate-open-eight
+slice-aggregate-open-eight c = search needs
+
+open-eight-requires-2 : tie.Need-open-eight-requires-2
+open-eight-requires-2 c κs = search needs
+
+slice-aggregate-write-all-2 : tie.Need-slice-aggregate-write-all-2
+slice-aggregate-write-all-2 c = search needs
+
+write-all-requires-2 : tie.Need-write-all-requires-2
+write-all-requires-2 c κs = search needs
+
+print-bytes-requires : tie.Need-print-bytes-requires
+print-bytes-requires c κs = search needs
+
+slice-aggregate-write-all-3 : tie.Need-slice-aggregate-write-all-3
+slice-aggregate-write-all-3 c = search needs
+
+write-all-requires-3 : tie.Need-write-all-requires-3
+write-all-requires-3 c κs = search needs
+
+returns : tie.Need-returns
+unfolding sixteen
+returns c =
+    c .before .before .before .before .before .open-eight2 .ensures
+    ∙ ap (λ (h : Hub). final onHub h (replicate 8 (Open 3 [])))
+    (c .before .before .before .before .before .before .before .open-eight .ensures ∙ ap (λ (h : Hub). final onHub h (replicate 8 (Open 1 (c .before .before .before .before .before .before .before .before .before .before .before .before .before .args .key .now)))) (c .before .before .before .before .before .before .before .before .empty .ensures))
+
+pub begin-spec : {M : Type 1} → statement M
+begin-spec =
+    tie.close
+    (tie.spec
+    slice-aggregate-write-all
+    write-all-requires
+    empty-requires
+    open-eight-requires
+    slice-aggregate-open-eight
+    open-eight-requires-2
+    slice-aggregate-write-all-2
+    write-all-requires-2
+    print-bytes-requires
+    slice-aggregate-write-all-3
+    write-all-requires-3
+    returns)

@@ -1,0 +1,194 @@
+// The controller's main loop, made twice over the same calls: on a hub that is handed on by value, and on one that stays in its memory and is lent round after round.
+// Both print every call with its answer, and what the hub's tickets give at the end. The two lists are the same, and tests/ works every answer and byte out anew.
+use calls::Answer;
+use hub::Hub;
+ghost use mathlib.Core.Path.{_≡_};
+ghost use lib.ListN.{replicate};
+ghost use Rattle.calls.specs.Call.{Open, final};
+ghost use Rattle.hub.specs.Hub.{onHub};
+ghost use Rattle.mainloop.specs.Rounds.{feedTicket, closeTicket, roundsFrom, sixteen};
+
+// ---- printing
+
+fn print_number(n: u64) {
+    io::write_all(1, b" ");
+    io::print_decimal(1, n);
+}
+
+fn print_byte(byte: u8) {
+    print_number(byte as u64);
+}
+
+fn print_bytes(bytes: &[u8]) {
+    io::write_all(1, b" [");
+    let mut i = 0;
+    while i < bytes.len() {
+        print_byte(bytes[i]);
+        i += 1;
+    }
+    io::write_all(1, b" ]");
+}
+
+fn print_answer(answer: Answer) {
+    io::write_all(1, b" = refusal");
+    print_number(answer.refusal as u64);
+    io::write_all(1, b" ticket");
+    print_number(answer.ticket as u64);
+    io::write_all(1, b" runs");
+    print_number(answer.runs);
+    if answer.passed {
+        io::write_all(1, b" passed 1 sum");
+    } else {
+        io::write_all(1, b" passed 0 sum");
+    }
+    print_number(answer.sum);
+}
+
+// What the two calls of round i were answered.
+fn print_round(i: usize, fed: Answer, closed: Answer) {
+    io::write_all(1, b"feed");
+    print_number(feed_ticket(i) as u64);
+    io::write_all(1, b" message");
+    print_answer(fed);
+    io::write_all(1, b"\nclose");
+    print_number(close_ticket(i) as u64);
+    print_answer(closed);
+    io::write_all(1, b"\n");
+}
+
+// ---- the rounds: each feeds the message to one ticket and closes another. Some tickets are never issued, and some are closed before.
+
+fn feed_ticket(i: usize) -> u32
+    ensures { λ r. ⌜ r ≡ feedTicket i ⌝ }
+{
+    (i % 18) as u32
+}
+
+fn close_ticket(i: usize) -> u32
+    ensures { λ r. ⌜ r ≡ closeTicket i ⌝ }
+{
+    (i % 64 * 5 % 256) as u32
+}
+
+// The hub handed on by value.
+fn serve_by_value(hub: Hub, bytes: &[u8], rounds: usize) -> Hub
+    ensures { λ r. ⌜ r ≡ final onHub hub (roundsFrom 0 rounds (now (bytes .entry))) ⌝ }
+{
+    let mut current = hub;
+    let mut i = 0;
+    while i < rounds {
+        let fed = hub::feed(current, feed_ticket(i), bytes);
+        let closed = hub::close(fed.hub, close_ticket(i));
+        print_round(i, fed.answer, closed.answer);
+        current = closed.hub;
+        i += 1;
+    }
+    current
+}
+
+// The hub held here and lent.
+fn serve_in_place(hub: Hub, bytes: &[u8], rounds: usize) -> Hub
+    ensures { λ r. ⌜ r ≡ final onHub hub (roundsFrom 0 rounds (now (bytes .entry))) ⌝ }
+{
+    let mut held = hub;
+    let mut i = 0;
+    while i < rounds {
+        let fed = controller::feed(&mut held, feed_ticket(i), bytes);
+        let closed = controller::close(&mut held, close_ticket(i));
+        print_round(i, fed, closed);
+        i += 1;
+    }
+    held
+}
+
+// ---- before the rounds and after them, by value
+
+// Eight tickets of one mode.
+fn open_eight(before: Hub, mode: u32, key: &[u8]) -> Hub
+    ensures { λ r. ⌜ r ≡ final onHub before (replicate 8 (Open mode (now (key .entry)))) ⌝ }
+{
+    let mut current = before;
+    let mut i = 0usize;
+    while i < 8 {
+        let reply = hub::open(current, mode, key);
+        io::write_all(1, b"open");
+        print_number(mode as u64);
+        print_bytes(key);
+        print_answer(reply.answer);
+        io::write_all(1, b"\n");
+        current = reply.hub;
+        i += 1;
+    }
+    current
+}
+
+// An empty hub, eight PRF tickets and eight of the hash.
+fn begin(key: &[u8], message: &[u8]) -> Hub
+    ensures { λ r. ⌜ r ≡ sixteen (now (key .entry)) ⌝ }
+{
+    io::write_all(1, b"empty\n");
+    let hub = open_eight(open_eight(Hub::empty(), 1, key), 3, b"");
+    io::write_all(1, b"message");
+    print_bytes(message);
+    io::write_all(1, b"\n");
+    hub
+}
+
+// What each ticket gives, those that are closed and one that was never issued among them, and the sum.
+fn end(before: Hub) {
+    let mut current = before;
+    let mut ticket = 1;
+    while ticket < 18 {
+        let mut out = [170u8; 16];
+        let reply = hub::draw(current, ticket, &mut out, 0, 16);
+        io::write_all(1, b"draw");
+        print_number(ticket as u64);
+        print_bytes(&[170u8; 16]);
+        io::write_all(1, b" 0 16");
+        print_answer(reply.answer);
+        print_bytes(&out);
+        io::write_all(1, b"\n");
+        current = reply.hub;
+        ticket += 1;
+    }
+    let last = hub::sum(current);
+    io::write_all(1, b"sum");
+    print_answer(last.answer);
+    io::write_all(1, b"\n");
+}
+
+const ROUNDS: usize = 150;
+
+const KEY: [u8; 16] = [0, 1, 2, 3, 4, 5, 6, 7, 8, 9, 10, 11, 12, 13, 14, 15];
+
+const MESSAGE: [u8; 20] = [
+    255,
+    0,
+    1,
+    128,
+    127,
+    64,
+    32,
+    16,
+    8,
+    4,
+    2,
+    1,
+    90,
+    165,
+    3,
+    7,
+    15,
+    31,
+    63,
+    127,
+];
+
+fn main() {
+    let key = KEY;
+    let message = MESSAGE;
+    io::write_all(1, b"by value\n");
+    end(serve_by_value(begin(&key, &message), &message, ROUNDS));
+    io::write_all(1, b"in place\n");
+    end(serve_in_place(begin(&key, &message), &message, ROUNDS));
+}

@@ -1,0 +1,159 @@
+//! Lists of calls and what they gave, as the programs `day` and `mainloop` print them, worked out anew by the plain machine.
+use crate::machine::{Answer, Call, Machine};
+
+/// The words of a line, with each bracketed list of bytes taken apart from the others.
+struct Words<'a>(&'a str);
+
+impl<'a> Words<'a> {
+    fn word(&mut self) -> &'a str {
+        let (word, rest) = self.0.split_once(' ').unwrap_or((self.0, ""));
+        self.0 = rest;
+        word
+    }
+
+    fn number<T: std::str::FromStr>(&mut self) -> T {
+        let word = self.word();
+        word.parse()
+            .unwrap_or_else(|_| panic!("no number: {word:?}"))
+    }
+
+    fn bytes(&mut self) -> Vec<u8> {
+        let (list, rest) = self.0.strip_prefix('[').unwrap().split_once(']').unwrap();
+        self.0 = rest.trim_start_matches(' ');
+        list.split_whitespace()
+            .map(|b| b.parse().unwrap())
+            .collect()
+    }
+
+    /// Bytes, or the word that stands for a message given before.
+    fn bytes_or(&mut self, message: &[u8]) -> Vec<u8> {
+        if self.0.starts_with('[') {
+            return self.bytes();
+        }
+        self.expect("message");
+        message.to_vec()
+    }
+
+    fn expect(&mut self, word: &str) {
+        assert_eq!(self.word(), word);
+    }
+}
+
+/// A line of a list: a new hub, the bytes that feeds go on to call `message`, the same feed many times, or a call and its answer.
+pub enum Line {
+    Empty,
+    Message(Vec<u8>),
+    Often(u32, usize, Vec<u8>),
+    Call(Call, Answer),
+}
+
+pub fn parse(line: &str, message: &[u8]) -> Line {
+    let mut words = Words(line);
+    let call = match words.word() {
+        "empty" => return Line::Empty,
+        "message" => return Line::Message(words.bytes()),
+        "often" => return Line::Often(words.number(), words.number(), words.bytes()),
+        "open" => Call::Open {
+            mode: words.number(),
+            key: words.bytes(),
+        },
+        "feed" => Call::Feed {
+            ticket: words.number(),
+            bytes: words.bytes_or(message),
+        },
+        "draw" => Call::Draw {
+            ticket: words.number(),
+            buffer: words.bytes(),
+            place: words.number(),
+            count: words.number(),
+        },
+        "check" => Call::Check {
+            ticket: words.number(),
+            tag: words.bytes(),
+        },
+        "close" => Call::Close {
+            ticket: words.number(),
+        },
+        "sum" => Call::Sum,
+        other => panic!("no call: {other}"),
+    };
+    words.expect("=");
+    words.expect("refusal");
+    let refusal = words.number();
+    words.expect("ticket");
+    let ticket = words.number();
+    words.expect("runs");
+    let runs = words.number();
+    words.expect("passed");
+    let passed = words.number::<u8>() == 1;
+    words.expect("sum");
+    let sum = words.number();
+    let buffer = match call {
+        Call::Draw { .. } => Some(words.bytes()),
+        _ => None,
+    };
+    assert_eq!(words.0, "");
+    Line::Call(
+        call,
+        Answer {
+            refusal,
+            ticket,
+            runs,
+            passed,
+            sum,
+            buffer,
+        },
+    )
+}
+
+/// Works all lines out anew: the calls that were not answered as the plain machine answers them, by line.
+pub fn wrong(text: &str) -> Vec<(usize, Answer)> {
+    let mut machine = Machine::default();
+    let mut message = Vec::new();
+    let mut found = Vec::new();
+    for (i, line) in text.lines().enumerate() {
+        match parse(line, &message) {
+            Line::Empty => machine = Machine::default(),
+            Line::Message(bytes) => message = bytes,
+            Line::Often(ticket, times, bytes) => {
+                for _ in 0..times {
+                    let answer = machine.call(&Call::Feed {
+                        ticket,
+                        bytes: bytes.clone(),
+                    });
+                    assert_eq!(answer.refusal, 0);
+                }
+            }
+            Line::Call(call, printed) => {
+                let right = machine.call(&call);
+                if right != printed {
+                    found.push((i + 1, right));
+                }
+            }
+        }
+    }
+    found
+}
+
+/// The comparison itself: the lines of a list, each with one number of its answer changed, are found to be wrong there. Gives how many were tried.
+pub fn changes_found(text: &str) -> usize {
+    let lines: Vec<&str> = text.lines().collect();
+    let mut tried = 0;
+    for i in 0..lines.len() {
+        let Some((call, answer)) = lines[i].split_once(" = ") else {
+            continue;
+        };
+        for field in ["refusal", "ticket", "runs", "sum"] {
+            let (before, rest) = answer.split_once(&format!("{field} ")).unwrap();
+            let (number, after) = rest.split_once(' ').unwrap_or((rest, ""));
+            let other: u64 = number.parse::<u64>().unwrap() + 1;
+            let changed = format!("{call} = {before}{field} {other} {after}");
+            let mut all: Vec<&str> = lines[..=i].to_vec();
+            all[i] = changed.trim_end();
+            let found = wrong(&all.join("\n"));
+            assert_eq!(found.iter().map(|f| f.0).collect::<Vec<_>>(), [i + 1]);
+            tried += 1;
+        }
+    }
+    tried
+}

@@ -1,0 +1,62 @@
+//! What the program `mainloop` printed: the same calls on a hub by value and on one that stays in its memory. `rt ci` holds the program to the file that is read here.
+use reference::listing::{changes_found, parse, wrong, Line};
+use std::collections::BTreeMap;
+use std::path::Path;
+
+/// The list by value, and the list in place.
+fn printed() -> (String, String) {
+    let file = Path::new(env!("CARGO_MANIFEST_DIR")).join("../../crates/mainloop/stdout");
+    let text = std::fs::read_to_string(file).unwrap();
+    let (by_value, in_place) = text
+        .strip_prefix("by value\n")
+        .unwrap()
+        .split_once("in place\n")
+        .unwrap();
+    (by_value.to_string(), in_place.to_string())
+}
+
+#[test]
+fn both_lists_are_the_same() {
+    let (by_value, in_place) = printed();
+    assert_eq!(by_value, in_place);
+}
+
+#[test]
+fn every_answer_and_every_byte_is_the_plain_machines() {
+    let (_, in_place) = printed();
+    assert_eq!(in_place.lines().count(), 336);
+    assert_eq!(wrong(&in_place), []);
+}
+
+#[test]
+fn calls_are_accepted_and_refused() {
+    let (_, in_place) = printed();
+    let mut counts = BTreeMap::new();
+    for line in in_place.lines() {
+        if let Line::Call(_, answer) = parse(line, &[]) {
+            let name = line.split(' ').next().unwrap().to_string();
+            *counts.entry((name, answer.refusal)).or_insert(0) += 1;
+        }
+    }
+    for (name, refusal) in [
+        ("feed", 0),
+        ("feed", 11),
+        ("feed", 12),
+        ("close", 0),
+        ("close", 11),
+        ("close", 12),
+        ("draw", 0),
+    ] {
+        assert!(
+            counts.get(&(name.to_string(), refusal)) > Some(&2),
+            "{name} {refusal}"
+        );
+    }
+}
+
+#[test]
+fn a_changed_answer_is_found() {
+    let (_, in_place) = printed();
+    let first: Vec<&str> = in_place.lines().take(150).collect();
+    assert!(changes_found(&first.join("\n")) > 500);
+}
