@@ -140,7 +140,7 @@ uint32_t plain_prf_short(const uint8_t *key, size_t key_length, const uint8_t *m
     return 0;
 }
 
-/* A hub of MAC tickets. A free place has ticket 0. */
+/* A hub that knows MAC tickets alone, so that it needs no mode and nothing drawn; its answer has the two fields that a feed fills. A free place has ticket 0. */
 enum { PLACES = 16, RATE = 32, MOST_FED = 16777216 };
 
 struct record {
@@ -183,7 +183,8 @@ static void absorb(struct record *r, const uint8_t *bytes, size_t length) {
     }
 }
 
-static struct answer feed(struct hub *h, uint32_t ticket, const uint8_t *bytes, size_t length) {
+/* Called, as a main loop would: not inlined into the loop, nor specialised for it. */
+__attribute__((noipa)) static struct answer feed(struct hub *h, uint32_t ticket, const uint8_t *bytes, size_t length) {
     struct record *r = h->records;
     if (ticket == 0 || ticket > h->issued) return (struct answer){11, 0};
     while (r < h->records + PLACES && r->ticket != ticket) r++;

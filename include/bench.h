@@ -1,6 +1,7 @@
-/* The Ascon permutation and sponge for the test bench: the C functions of target/staticlib/libbench.a, which `rt staticlib bench` writes.
+/* The Ascon permutation and sponge, the runs of frames, and feeds through the hub, for the test bench: the C functions of target/staticlib/libbench.a, which
+ * `rt staticlib bench` writes.
  *
- * All are proved against the definitions of crates/permutation/specs and crates/sponge/specs. They keep nothing between calls and allocate nothing.
+ * All are proved; crates/bench/src has what each promises. They keep nothing between calls and allocate nothing.
  * C is trusted to hand over valid buffers of the lengths that it names, of which the one written to overlaps no other. No pointer is null, not even to no bytes. */
 #ifndef BENCH_H
 #define BENCH_H
@@ -32,9 +33,13 @@ uint64_t bench_sponge(const uint8_t *key, size_t key_length, const uint8_t *mess
  * Every byte of the tag is looked at, whatever the others are. */
 uint32_t bench_tag(const uint8_t *key, size_t key_length, const uint8_t *message, size_t message_length, const uint8_t *tag, size_t tag_length);
 
+/* Seal and judge a frame as include/sign.h's functions do, with the same checks, and give the runs that were made, floor(body / 32) + 2; 0 where it is refused. */
+uint64_t bench_seal_runs(const uint8_t *key, size_t key_length, uint8_t *frame, size_t frame_length, size_t body);
+uint64_t bench_verify_runs(const uint8_t *key, size_t key_length, const uint8_t *frame, size_t frame_length, size_t body);
+
 /* Opens sixteen MAC tickets, 1 to 16, under a key of sixteen zero bytes in an empty hub; feeds `bytes` to `ticket` so many times; and gives the run count that a
- * feed of no bytes to it then answers with, or 0 where that is refused. The first hands the hub from call to call by value; to the second it is one that stays in
- * its memory. Both give the same. */
+ * feed of no bytes to it then answers with, or 0 where that is refused. In the first the hub goes from call to call by value; in the second it stays in its memory.
+ * Both give the same. */
 uint64_t bench_feeds_by_value(uint32_t ticket, const uint8_t *bytes, size_t length, size_t times);
 uint64_t bench_feeds_in_place(uint32_t ticket, const uint8_t *bytes, size_t length, size_t times);
 

@@ -2,7 +2,7 @@
 --     element us k d lt e p    element k of the cell of an array us that p finds (`Types/Part.antt`), at k * size + o, as MIR's `offset` has it.  `look-in` and `store-in` read and write it
 --     slot D L xs k d are lt p     the same for an array xs of a declared type D, whose relation is `are`: the element's machine value is that of `getD xs k d`
 --     machines D L xs  the machine values of the elements xs.        got-val, put-val     that of one element, and those with one element put in another's place
---     Are D L n xs vs  the relation of an array of n elements.        count-is, got-is, put-is     what it says: how many elements there are, the relation of one element, and the
+--     Are D L n xs vs  the relation of an array of n elements.        got-is, put-is     what it says: the relation of one element, and the
 --                      relation of the array with one put in another's place
 --     with-field D L d k u     d's machine value, with u in the place of field k's, as a store of the field leaves it
 --     bytes-fit n s tt lt      a machine word counts the bytes before element k of n, of s bytes each
@@ -24,7 +24,7 @@ use prog.Memory.{size}
 use prog.Model.{elems}
 use prog.Wp.{Heap, Env, Spot, spotOf, Calls, Loops}
 use ghost.Atoms.{Atoms}
-use types.Kit.{Given, Item, Post, runs, put, Step, step, ‵, raw, _⊛_, mean, _$_, _∵_, !, qed, move, use1, use2, split, assume, frame, each, done}
+use types.Kit.{Given, Item, Post, runs, Step, step, ‵, raw, _⊛_, mean, _$_, _∵_, !, qed, move, use1, use2, split, assume, frame, each, done}
 use types.Run.{Reads, Writes, Finds, Opd, stop, from, load, lit, bin, addr, assigns}
 use types.Part.{Part}
 use denote.Shadow.{shadow}
@@ -135,9 +135,6 @@ module _ (D : Declared) (L : LL.Laws D) where
   -- the relation of an array of n elements
   abbrev pub Are : ℕ → List (D .D) → List Val → Type 0
   Are n xs vs = Is (Array (Struct (shape D)) n) (map (D .to) xs) vs
-
-  pub count-is : {n : ℕ} (xs : List (D .D)) {vs : List Val} → Are n xs vs → length xs ≡ n
-  count-is xs p = sym (length-map xs (D .to)) ∙ p .1 .0 .1
 
   count-val : {n : ℕ} (xs : List (D .D)) {vs : List Val} → Are n xs vs → length (machines xs) ≡ n
   count-val xs p = length-map (map (D .to) xs) (LL.tuple-val D L) ∙ p .1 .0 .1

@@ -1,6 +1,6 @@
 -- What a callee returns, in a proof that walks the code, and the end of a local.
---     answered     a callee's `post` at the machine value v: the tokens i, what the struct r that it returned owns, and, for some last values w, what says them, j w, and the fact
---                  φ r w. r, w, the fact and r's relation are in hand, and i and j w are left.        answered-as      the same for any type.        answered-by      the same for any `ensures` that gives the fact
+--     answered     a callee's `post` at the machine value v: the tokens i, what the value r that it returned owns, and, for some last values w, what says them, j w, and the fact
+--                  φ r w. r, w, the fact and r's relation are in hand, and i and j w are left.        answered-by      the same for any `ensures` that gives the fact
 --     both-said, says-both     two clauses of an `ensures`, which ∗ joins, are one fact; and the step that shows two, as `says` shows one
 --     told         the same where the fact is that the result is x: x's relation is in hand, and i is left
 --     computes     a call of a function of plain data, whose contract says that its result is y: what is passed owns only facts, and y's relation is in hand when the call has returned
@@ -55,23 +55,17 @@ module _ {M : Type 1} {𝓤 : URA M} {H : Heap 𝓤} {A : Atoms 𝓤} {K : Type 
       use1 W (later (some (λ (r : R .Denot). (i ⊛ ‵ (R .own r (v ∷ []))) ⊛ some (λ (w : X). j w ⊛ raw (S r w))))) p $ await t z $ pick t (λ r. split t $ split t $ move t (1 ∷ []) $
       peeks t R (Is R) (shows 𝓤 H A R) r (v ∷ []) (λ is. drop t $ move t (1 ∷ []) $ pick t (λ w. split t $ move t (1 ∷ []) $ use1 W (raw (fact 𝓤 (φ r w))) (said r w) $ heard t (φ r w) (λ e. k r w e is))))
 
-  pub answered-as : K → Soaks G → (R : RattleType) {P : SProp 𝓤} {X : Type 0} (v : Val) (i : Item 𝓤) (j : X → Item 𝓤) (φ : R .Denot → X → Type 0)
+  pub answered : K → Soaks G → (R : RattleType) {P : SProp 𝓤} {X : Type 0} (v : Val) (i : Item 𝓤) (j : X → Item 𝓤) (φ : R .Denot → X → Type 0)
       → ent 𝓤 P (H .⇛ (ex 𝓤 (λ (r : R .Denot). sep 𝓤 (sep 𝓤 (mean 𝓤 H A i) (sem 𝓤 H A (R .own r (v ∷ [])))) (ex 𝓤 (λ (w : X). sep 𝓤 (mean 𝓤 H A (j w)) (fact 𝓤 (φ r w)))))))
       → ((r : R .Denot) (w : X) → φ r w → Is R r (v ∷ []) → Seq K W (j w ∷ i ∷ Γ) G)
       → Seq K W (raw P ∷ Γ) G
-  answered-as t z R v i j φ p k = answered-by t z R v i j (λ r w. fact 𝓤 (φ r w)) φ (λ r w. id⊢ 𝓤 (fact 𝓤 (φ r w))) p k
+  answered t z R v i j φ p k = answered-by t z R v i j (λ r w. fact 𝓤 (φ r w)) φ (λ r w. id⊢ 𝓤 (fact 𝓤 (φ r w))) p k
 
   pub told : K → Soaks G → (R : RattleType) (x : R .Denot) {P : SProp 𝓤} {X : Type 0} (v : Val) (i : Item 𝓤) (j : X → Item 𝓤)
       → ent 𝓤 P (H .⇛ (ex 𝓤 (λ (r : R .Denot). sep 𝓤 (sep 𝓤 (mean 𝓤 H A i) (sem 𝓤 H A (R .own r (v ∷ [])))) (ex 𝓤 (λ (w : X). sep 𝓤 (mean 𝓤 H A (j w)) (fact 𝓤 (r ≡ x)))))))
       → (Is R x (v ∷ []) → Seq K W (i ∷ Γ) G)
       → Seq K W (raw P ∷ Γ) G
-  told t z R x v i j p k = answered-as t z R v i j (λ r w. r ≡ x) p (λ r w e is. drop t $ k (subst (λ (y : R .Denot). Is R y (v ∷ [])) e is))
-
-  pub answered : K → Soaks G → (D : Declared) {P : SProp 𝓤} {X : Type 0} (v : Val) (i : Item 𝓤) (j : X → Item 𝓤) (φ : D .D → X → Type 0)
-      → ent 𝓤 P (H .⇛ (ex 𝓤 (λ (r : D .D). sep 𝓤 (sep 𝓤 (mean 𝓤 H A i) (sem 𝓤 H A (row D .own r (v ∷ [])))) (ex 𝓤 (λ (w : X). sep 𝓤 (mean 𝓤 H A (j w)) (fact 𝓤 (φ r w)))))))
-      → ((r : D .D) (w : X) → φ r w → Is (row D) r (v ∷ []) → Seq K W (j w ∷ i ∷ Γ) G)
-      → Seq K W (raw P ∷ Γ) G
-  answered t z D v i j φ p k = answered-as t z (row D) v i j φ p k
+  told t z R x v i j p k = answered t z R v i j (λ r w. r ≡ x) p (λ r w e is. drop t $ k (subst (λ (y : R .Denot). Is R y (v ∷ [])) e is))
 
 -- ---- a struct's machine value is of its type
 pub typed : {M : Type 1} {𝓤 : URA M} {H : Heap 𝓤} {A : Atoms 𝓤} (W : Given 𝓤 H A) (D : Declared) (L : LL.Laws D) (x : D .D) → Is (row D) x (LL.vals D L x) → T (hasTy (layout (shape D)) (LL.val D L x)) × WT (LL.val D L x)

@@ -1,4 +1,4 @@
--- One call made again and again: what a loop that makes it is left with.
+-- What a loop that makes calls is left with: how many turns, and, where it makes one call again and again, what they make of the hub.
 -- Assumes nothing.
 use mathlib.Core.Path.{_≡_}
 use Prim.Native.Nat.{ℕ, suc, _+_, _-_, _≤_, _<_}
@@ -6,10 +6,11 @@ use native.Mathlib.Omega.{arith}
 use lib.ListN.{replicate}
 use Rattle.calls.specs.Call.{Call, Step, final}
 
-one-less : (n i : ℕ) → i < n → n - i ≡ suc (n - (i + 1))
+-- after one more turn there is one fewer
+pub one-less : (n i : ℕ) → i < n → n - i ≡ suc (n - (i + 1))
 one-less n i h = omega arith
 
-none-left : (n i : ℕ) → n ≤ i → n - i ≡ 0
+pub none-left : (n i : ℕ) → n ≤ i → n - i ≡ 0
 none-left n i h = omega arith
 
 module _ {S : Type 0} (run : Call → S → Step S) (c : Call) (n i : ℕ) (s : S) where

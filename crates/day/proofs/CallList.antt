@@ -2,16 +2,17 @@
 -- Assumes nothing.
 use mathlib.Core.Path.{_≡_, sym, ap, _∙_}
 use mathlib.Core.List.{List, []}
-use Prim.Native.Nat.{ℕ, suc, _+_, _-_, _*_, _/_, _%_, _≤_, _<_}
+use Prim.Native.Nat.{ℕ, _+_, _-_, _*_, _/_, _%_, _≤_, _<_}
 use native.Mathlib.Nat.{add-sub-cancel-left}
 use native.Mathlib.Numerals.{add-one}
 use native.Mathlib.Omega.{arith}
 use borrow.Author.Tests.{lt-ltb, le-ltb}
 use lib.ListN.{take, drop, replicate}
+use Rattle.calls.proofs.Repeats.{one-less, none-left}
 use Rattle.calls.specs.Call.{Call, Open, Feed, Draw, Close, final}
 use Rattle.hub.specs.declared.Hub.{Hub}
-use Rattle.hub.specs.Hub.{onHub, feedHub}
-use Rattle.day.specs.Day.{callAt, callsFrom, often}
+use Rattle.hub.specs.Hub.{onHub}
+use Rattle.day.specs.Day.{callAt, callsFrom}
 
 -- ---- which call it is
 
@@ -42,12 +43,6 @@ after-call i bytes h after c is e = e ∙ sym (ap (λ (d : Call). onHub d h .aft
 
 -- ---- what is left of them
 
-one-less : (n i : ℕ) → i < n → n - i ≡ suc (n - (i + 1))
-one-less n i h = omega arith
-
-none-left : (n i : ℕ) → n ≤ i → n - i ≡ 0
-none-left n i h = omega arith
-
 pub calls-next : (bytes : List ℕ) (end i : ℕ) (h after : Hub) → i < end → after ≡ onHub (callAt i bytes) h .after
     → final onHub after (callsFrom (i + 1) (end - (i + 1)) bytes) ≡ final onHub h (callsFrom i (end - i) bytes)
 unfolding callsFrom final
@@ -56,12 +51,3 @@ calls-next bytes end i h after l e = rw (one-less end i l, e, add-one)
 pub calls-end : (bytes : List ℕ) (end i : ℕ) (h : Hub) → end ≤ i → h ≡ final onHub h (callsFrom i (end - i) bytes)
 unfolding callsFrom final
 calls-end bytes end i h l = rw (none-left end i l)
-
-pub often-next : (bytes : List ℕ) (ticket times i : ℕ) (h after : Hub) → i < times → after ≡ feedHub ticket bytes h .after
-    → final onHub after (often (times - (i + 1)) ticket bytes) ≡ final onHub h (often (times - i) ticket bytes)
-unfolding often final onHub
-often-next bytes ticket times i h after l e = rw (one-less times i l, e)
-
-pub often-end : (bytes : List ℕ) (ticket times i : ℕ) (h : Hub) → times ≤ i → h ≡ final onHub h (often (times - i) ticket bytes)
-unfolding often final
-often-end bytes ticket times i h l = rw (none-left times i l)

@@ -22,8 +22,3 @@ callAt i bytes =
 unfoldable pub callsFrom : ℕ → ℕ → List ℕ → List Call
 callsFrom i zero bytes = []
 callsFrom i (suc n) bytes = callAt i bytes ∷ callsFrom (suc i) n bytes
-
--- the same bytes fed n times
-unfoldable pub often : ℕ → ℕ → List ℕ → List Call
-often zero ticket bytes = []
-often (suc n) ticket bytes = Feed ticket bytes ∷ often n ticket bytes

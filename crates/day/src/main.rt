@@ -4,10 +4,10 @@ use calls::Answer;
 use hub::Hub;
 ghost use mathlib.Core.Path.{_≡_};
 ghost use Prim.Native.Nat.{_-_, _≤_, _<_};
-ghost use lib.ListN.{length};
-ghost use Rattle.calls.specs.Call.{final};
+ghost use lib.ListN.{length, replicate};
+ghost use Rattle.calls.specs.Call.{Feed, final};
 ghost use Rattle.hub.specs.Hub.{emptyHub, openHub, feedHub, drawHub, checkHub, closeHub, sumHub, onHub};
-ghost use Rattle.day.specs.Day.{callAt, callsFrom, often};
+ghost use Rattle.day.specs.Day.{callAt, callsFrom};
 
 // ---- printing
 
@@ -134,7 +134,7 @@ fn sum(before: Hub) -> Hub
 
 // The same bytes fed so many times: their answers are not printed.
 fn feed_often(before: Hub, ticket: u32, bytes: &[u8], times: usize) -> Hub
-    ensures { λ r. ⌜ r ≡ final onHub before (often times ticket (now (bytes .entry))) ⌝ }
+    ensures { λ r. ⌜ r ≡ final onHub before (replicate times (Feed ticket (now (bytes .entry)))) ⌝ }
 {
     io::write_all(1, b"often");
     print_number(ticket as u64);

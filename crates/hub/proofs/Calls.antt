@@ -14,7 +14,7 @@ use Rattle.mode.specs.declared.Named.{Named}
 use Rattle.mode.specs.declared.Named.the-variants.{Is, NoMode}
 use Rattle.sponge.specs.declared.record.Record.{Record}
 use Rattle.mode.specs.Mode.{row, named}
-use Rattle.sponge.specs.Record.{sum64, vacant, fresh, absorbed, finished, nextBytes, squeezed, tagMatches}
+use Rattle.sponge.specs.Record.{sum64, fresh, absorbed, finished, nextBytes, squeezed, tagMatches}
 use Rattle.calls.specs.declared.Answer.{Answer}
 use Rattle.calls.specs.Answer.{refused, opened, counted, judged}
 use Rattle.checks.specs.Checks.{OneCheck, checked}

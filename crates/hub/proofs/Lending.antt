@@ -34,7 +34,7 @@ use denote.Triple.Statement.{Contract, Triple}
 use denote.Triple.Call.{calls-at}
 use denote.Triple.Clauses.{lasts}
 use denote.Triple.Spec.{tripleOf}
-use Rattle.borrowed.specs.Borrows.{had, lent, returned}
+use Rattle.borrowed.specs.Borrows.{lent, returned}
 use Rattle.borrowed.specs.Results.{answered-by, both-said}
 use Rattle.calls.specs.declared.Answer.{Answer}
 use Rattle.hub.specs.declared.Hub.{Hub}

@@ -34,7 +34,7 @@ placeOf t h = find (λ (r : Record). r .ticket) t (h .records)
 unfoldable pub absent : ℕ → Hub → Bool
 absent t h = leb (length (h .records)) (placeOf t h)
 
--- what is read past the last place, which no call does: every field 0, and no words
+-- what is read past the last place, which no code does and on which no answer depends: every field 0, and no words
 abbrev pub noRecord : Record
 noRecord = record { words = []; runs = 0; ticket = 0; mode = Prf; fed = 0; drawn = 0; feeding = false }
 

@@ -2,7 +2,7 @@
 // reply; `in_place` has feed and close on a hub that stays in its memory. Nothing else writes the hub's fields.
 //
 // A call on a ticket finds the place of its record, works on the record (`records`), and puts it back; a refused call puts back what it found. So there is one way
-// through a call, and no more of the hub is written than one record.
+// through a call, and no more of the hub is written than one record and, by a close, the runs of the closed tickets.
 
 pub mod in_place;
 mod places;
@@ -171,6 +171,7 @@ pub fn close(hub: Hub, ticket: u32) -> Reply
     let record = closed.after;
     after.records[place] = record;
     let answer = closed.answer;
+    // A refused close answers with no runs.
     after.closed = std::num::wrapping_add_u64(after.closed, answer.runs);
     Reply {
         hub: after,

@@ -2,6 +2,7 @@
 use super::Hub;
 ghost use mathlib.Core.Path.{_≡_};
 ghost use Prim.Native.Nat.{_<_};
+ghost use Rattle.calls.specs.Checks.{mostOpen};
 ghost use Rattle.hub.specs.Records as spec;
 ghost use Rattle.hub.specs.Hub.{placeOf};
 
@@ -41,7 +42,7 @@ pub fn find(hub: Hub, ticket: u32) -> usize
 // Checks 11 and 12, which every call on a ticket begins with.
 pub fn locate(hub: Hub, ticket: u32) -> Located
     ensures located { λ r. ⌜ r ≡ spec.located ticket hub ⌝ }
-    ensures within { λ r. ⌜ r .place < 16 ⌝ }
+    ensures within { λ r. ⌜ r .place < mostOpen ⌝ }
 {
     if ticket == 0 {
         return Located::refused(11);

@@ -2,9 +2,9 @@
 -- Assumes nothing.
 use mathlib.Core.Path.{_≡_}
 use mathlib.Core.List.{List}
-use Prim.Native.Nat.{ℕ, suc, _+_, _-_, _≤_, _<_}
+use Prim.Native.Nat.{ℕ, _+_, _-_, _≤_, _<_}
 use native.Mathlib.Numerals.{add-one}
-use native.Mathlib.Omega.{arith}
+use Rattle.calls.proofs.Repeats.{one-less, none-left}
 use Rattle.calls.specs.Call.{final}
 use Rattle.hub.specs.declared.Hub.{Hub}
 use Rattle.hub.specs.Hub.{onHub, feedHub, closeHub}
@@ -13,12 +13,6 @@ use Rattle.mainloop.specs.Rounds.{feedTicket, closeTicket, roundsFrom}
 -- the hub after round i
 abbrev pub afterRound : ℕ → List ℕ → Hub → Hub
 afterRound i bytes h = closeHub (closeTicket i) (feedHub (feedTicket i) bytes h .after) .after
-
-one-less : (n i : ℕ) → i < n → n - i ≡ suc (n - (i + 1))
-one-less n i h = omega arith
-
-none-left : (n i : ℕ) → n ≤ i → n - i ≡ 0
-none-left n i h = omega arith
 
 pub rounds-next : (bytes : List ℕ) (n i : ℕ) (h after : Hub) → i < n → after ≡ afterRound i bytes h
     → final onHub after (roundsFrom (i + 1) (n - (i + 1)) bytes) ≡ final onHub h (roundsFrom i (n - i) bytes)

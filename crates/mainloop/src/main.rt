@@ -5,8 +5,8 @@ use hub::Hub;
 ghost use mathlib.Core.Path.{_≡_};
 ghost use lib.ListN.{replicate};
 ghost use Rattle.calls.specs.Call.{Open, final};
-ghost use Rattle.hub.specs.Hub.{onHub};
-ghost use Rattle.mainloop.specs.Rounds.{feedTicket, closeTicket, roundsFrom, sixteen};
+ghost use Rattle.hub.specs.Hub.{drawHub, onHub};
+ghost use Rattle.mainloop.specs.Rounds.{feedTicket, closeTicket, roundsFrom, lentOut, sixteen};
 
 // ---- printing
 
@@ -67,7 +67,7 @@ fn feed_ticket(i: usize) -> u32
 fn close_ticket(i: usize) -> u32
     ensures { λ r. ⌜ r ≡ closeTicket i ⌝ }
 {
-    (i % 64 * 5 % 256) as u32
+    (i / 8 % 13) as u32
 }
 
 // The hub handed on by value.
@@ -122,33 +122,42 @@ fn open_eight(before: Hub, mode: u32, key: &[u8]) -> Hub
     current
 }
 
-// An empty hub, eight PRF tickets and eight of the hash.
+// So many bytes drawn from a ticket.
+fn draw(before: Hub, ticket: u32, count: usize) -> Hub
+    ensures { λ r. ⌜ r ≡ drawHub ticket lentOut 0 count before .after ⌝ }
+{
+    let mut out = [170u8; 16];
+    let reply = hub::draw(before, ticket, &mut out, 0, count);
+    io::write_all(1, b"draw");
+    print_number(ticket as u64);
+    print_bytes(&[170u8; 16]);
+    io::write_all(1, b" 0");
+    print_number(count as u64);
+    print_answer(reply.answer);
+    print_bytes(&out);
+    io::write_all(1, b"\n");
+    reply.hub
+}
+
+// An empty hub, eight PRF tickets and eight of the hash, one of which takes no more bytes.
 fn begin(key: &[u8], message: &[u8]) -> Hub
     ensures { λ r. ⌜ r ≡ sixteen (now (key .entry)) ⌝ }
 {
     io::write_all(1, b"empty\n");
-    let hub = open_eight(open_eight(Hub::empty(), 1, key), 3, b"");
+    let opened = open_eight(open_eight(Hub::empty(), 1, key), 3, b"");
+    let hub = draw(opened, 14, 3);
     io::write_all(1, b"message");
     print_bytes(message);
     io::write_all(1, b"\n");
     hub
 }
 
-// What each ticket gives, those that are closed and one that was never issued among them, and the sum.
-fn end(before: Hub) {
-    let mut current = before;
+// What each ticket gives, those that are closed and those that come now into their places among them, and the sum.
+fn end(before: Hub, key: &[u8]) {
+    let mut current = open_eight(before, 1, key);
     let mut ticket = 1;
-    while ticket < 18 {
-        let mut out = [170u8; 16];
-        let reply = hub::draw(current, ticket, &mut out, 0, 16);
-        io::write_all(1, b"draw");
-        print_number(ticket as u64);
-        print_bytes(&[170u8; 16]);
-        io::write_all(1, b" 0 16");
-        print_answer(reply.answer);
-        print_bytes(&out);
-        io::write_all(1, b"\n");
-        current = reply.hub;
+    while ticket < 26 {
+        current = draw(current, ticket, 16);
         ticket += 1;
     }
     let last = hub::sum(current);
@@ -188,7 +197,13 @@ fn main() {
     let key = KEY;
     let message = MESSAGE;
     io::write_all(1, b"by value\n");
-    end(serve_by_value(begin(&key, &message), &message, ROUNDS));
+    end(
+        serve_by_value(begin(&key, &message), &message, ROUNDS),
+        &key,
+    );
     io::write_all(1, b"in place\n");
-    end(serve_in_place(begin(&key, &message), &message, ROUNDS));
+    end(
+        serve_in_place(begin(&key, &message), &message, ROUNDS),
+        &key,
+    );
 }

@@ -7,6 +7,7 @@ use mode::Mode;
 ghost use mathlib.Core.Path.{_≡_};
 ghost use Rattle.sponge.specs.Record as spec;
 
+// The wider fields first: so there is one gap, of two bytes, and a record has 72.
 pub struct Record {
     // x0 to x4
     words: [u64; 5],
@@ -33,10 +34,10 @@ impl Record {
         Record {
             words: [0u64; 5],
             runs: 0,
-            ticket: 0,
-            mode: Mode::Prf,
             fed: 0,
             drawn: 0,
+            ticket: 0,
+            mode: Mode::Prf,
             feeding: false,
         }
     }
@@ -51,10 +52,10 @@ impl Record {
         let before = Record {
             words: initial,
             runs: 0,
-            ticket: ticket,
-            mode: mode,
             fed: 0,
             drawn: 0,
+            ticket: ticket,
+            mode: mode,
             feeding: true,
         };
         before.run()

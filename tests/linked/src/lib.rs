@@ -36,6 +36,8 @@ extern "C" {
         frame_length: usize,
         body: usize,
     ) -> u64;
+    fn bench_feeds_by_value(ticket: u32, bytes: *const u8, length: usize, times: usize) -> u64;
+    fn bench_feeds_in_place(ticket: u32, bytes: *const u8, length: usize, times: usize) -> u64;
     fn ascon_prf_short(
         key: *const u8,
         key_length: usize,
@@ -111,6 +113,18 @@ pub fn tag(key: &[u8], message: &[u8], tag: &[u8]) -> u32 {
             tag.len(),
         )
     }
+}
+
+/// A ticket's run count after so many feeds of the same bytes in a hub of sixteen MAC tickets, by value.
+pub fn feeds_by_value(ticket: u32, bytes: &[u8], times: usize) -> u64 {
+    // SAFETY: the slice is valid for its length, and its pointer is not null.
+    unsafe { bench_feeds_by_value(ticket, bytes.as_ptr(), bytes.len(), times) }
+}
+
+/// The same in place.
+pub fn feeds_in_place(ticket: u32, bytes: &[u8], times: usize) -> u64 {
+    // SAFETY: the slice is valid for its length, and its pointer is not null.
+    unsafe { bench_feeds_in_place(ticket, bytes.as_ptr(), bytes.len(), times) }
 }
 
 /// The short function, an output of so many bytes for a message under a key: 0, or the refusal.

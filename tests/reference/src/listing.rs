@@ -1,5 +1,6 @@
 //! Lists of calls and what they gave, as the programs `day` and `mainloop` print them, worked out anew by the plain machine.
 use crate::machine::{Answer, Call, Machine};
+use std::collections::BTreeMap;
 
 /// The words of a line, with each bracketed list of bytes taken apart from the others.
 struct Words<'a>(&'a str);
@@ -85,7 +86,11 @@ pub fn parse(line: &str, message: &[u8]) -> Line {
     words.expect("runs");
     let runs = words.number();
     words.expect("passed");
-    let passed = words.number::<u8>() == 1;
+    let passed = match words.number::<u8>() {
+        0 => false,
+        1 => true,
+        other => panic!("no verdict: {other}"),
+    };
     words.expect("sum");
     let sum = words.number();
     let buffer = match call {
@@ -135,24 +140,42 @@ pub fn wrong(text: &str) -> Vec<(usize, Answer)> {
     found
 }
 
-/// The comparison itself: the lines of a list, each with one number of its answer changed, are found to be wrong there. Gives how many were tried.
-pub fn changes_found(text: &str) -> usize {
+/// A line with one number of its answer changed: a field's, or a byte of the buffer that a draw gave back.
+fn changed(line: &str, field: &str) -> Option<String> {
+    let (call, answer) = line.split_once(" = ")?;
+    let (before, rest) = match field {
+        "buffer" => answer.split_once("[ ").or(answer.split_once('['))?,
+        _ => answer.split_once(&format!("{field} "))?,
+    };
+    let end = rest.find([' ', ']']).unwrap_or(rest.len());
+    let number: u64 = rest[..end].parse().ok()?;
+    let other = match field {
+        "passed" => 1 - number,
+        "buffer" => number ^ 1,
+        _ => number + 1,
+    };
+    let opening = if field == "buffer" {
+        "[".to_string()
+    } else {
+        format!("{field} ")
+    };
+    Some(format!("{call} = {before}{opening}{other}{}", &rest[end..]))
+}
+
+/// The comparison itself: each line with one number of its answer changed is found to be wrong there. Gives how many changes of each number were tried.
+pub fn changes_found(text: &str) -> BTreeMap<&'static str, usize> {
     let lines: Vec<&str> = text.lines().collect();
-    let mut tried = 0;
+    let mut tried = BTreeMap::new();
     for i in 0..lines.len() {
-        let Some((call, answer)) = lines[i].split_once(" = ") else {
-            continue;
-        };
-        for field in ["refusal", "ticket", "runs", "sum"] {
-            let (before, rest) = answer.split_once(&format!("{field} ")).unwrap();
-            let (number, after) = rest.split_once(' ').unwrap_or((rest, ""));
-            let other: u64 = number.parse::<u64>().unwrap() + 1;
-            let changed = format!("{call} = {before}{field} {other} {after}");
+        for field in ["refusal", "ticket", "runs", "passed", "sum", "buffer"] {
+            let Some(line) = changed(lines[i], field) else {
+                continue;
+            };
             let mut all: Vec<&str> = lines[..=i].to_vec();
-            all[i] = changed.trim_end();
+            all[i] = &line;
             let found = wrong(&all.join("\n"));
             assert_eq!(found.iter().map(|f| f.0).collect::<Vec<_>>(), [i + 1]);
-            tried += 1;
+            *tried.entry(field).or_insert(0) += 1;
         }
     }
     tried

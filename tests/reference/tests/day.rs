@@ -50,5 +50,6 @@ fn every_kind_of_call_and_refusal_occurs() {
 fn a_changed_answer_is_found() {
     let text = printed();
     let first: Vec<&str> = text.lines().take(200).collect();
-    assert!(changes_found(&first.join("\n")) > 700);
+    let tried = changes_found(&first.join("\n"));
+    assert!(tried["refusal"] > 150 && tried["passed"] > 150 && tried["buffer"] > 20);
 }

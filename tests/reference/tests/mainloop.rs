@@ -24,7 +24,7 @@ fn both_lists_are_the_same() {
 #[test]
 fn every_answer_and_every_byte_is_the_plain_machines() {
     let (_, in_place) = printed();
-    assert_eq!(in_place.lines().count(), 336);
+    assert_eq!(in_place.lines().count(), 353);
     assert_eq!(wrong(&in_place), []);
 }
 
@@ -42,6 +42,7 @@ fn calls_are_accepted_and_refused() {
         ("feed", 0),
         ("feed", 11),
         ("feed", 12),
+        ("feed", 15),
         ("close", 0),
         ("close", 11),
         ("close", 12),
@@ -57,6 +58,6 @@ fn calls_are_accepted_and_refused() {
 #[test]
 fn a_changed_answer_is_found() {
     let (_, in_place) = printed();
-    let first: Vec<&str> = in_place.lines().take(150).collect();
-    assert!(changes_found(&first.join("\n")) > 500);
+    let tried = changes_found(&in_place);
+    assert!(tried["refusal"] > 300 && tried["passed"] > 300 && tried["buffer"] > 20);
 }

@@ -3,17 +3,17 @@ use Prim.Native.Nat.{_-_, _≤_}
 use native.Mathlib.Nat.{sub-zero}
 use native.Mathlib.Omega.{arith}
 use borrow.Author.Needs.{needs}
-use Rattle.calls.specs.Call.{final}
+use lib.ListN.{replicate}
+use Rattle.calls.specs.Call.{Feed, final}
+use Rattle.calls.proofs.Repeats.{again-next, again-end}
 use Rattle.hub.specs.declared.Reply.{Reply}
 use Rattle.hub.specs.Hub.{onHub}
-use Rattle.day.specs.Day.{often}
-use Rattle.day.proofs.CallList.{often-next, often-end}
 use Rattle.day.proofs.feed_often.Statement.{statement}
 use Rattle.day.proofs.feed_often.Tie as tie
 
 abbrev Inv-loop : tie.InvT-loop
 Inv-loop ticket bytes times current₀ i₀ current i =
-    (i ≤ times) × (final onHub current (often (times - i) ticket bytes) ≡ final onHub current₀ (often times ticket bytes))
+    (i ≤ times) × (final onHub current (replicate (times - i) (Feed ticket bytes)) ≡ final onHub current₀ (replicate times (Feed ticket bytes)))
 
 abbrev μ-loop : tie.MeasureT-loop
 μ-loop ticket bytes times current₀ i₀ current i = times - i
@@ -52,12 +52,13 @@ loop-less : tie.Need-loop-less Inv-loop μ-loop
 loop-less c = omega arith
 
 loop-again : tie.Need-loop-again Inv-loop μ-loop
+unfolding onHub
 loop-again c =
     let l = c .before .before .before .loop in
-    (omega arith, often-next _ _ _ (l .i) (l .current) _ (omega arith) (ap (λ (r : Reply). r .hub) (c .before .feed .ensures)) ∙ l .inv .1)
+    (omega arith, again-next onHub _ _ (l .i) (l .current) (omega arith) _ (ap (λ (r : Reply). r .hub) (c .before .feed .ensures)) ∙ l .inv .1)
 
 returns : tie.Need-returns Inv-loop μ-loop
-returns c = often-end _ _ _ (c .before .loop .i) (c .before .loop .current) (omega arith) ∙ c .before .loop .inv .1
+returns c = again-end onHub _ _ (c .before .loop .i) (c .before .loop .current) (omega arith) ∙ c .before .loop .inv .1
 
 pub feed-often-spec : {M : Type 1} → statement M
 feed-often-spec =

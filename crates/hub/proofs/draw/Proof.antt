@@ -1,4 +1,4 @@
-use mathlib.Core.Path.{_≡_, sym, ap, _∙_}
+use mathlib.Core.Path.{sym, ap, _∙_}
 use Rattle.sponge.specs.declared.record.Record.{Record}
 use Rattle.calls.specs.Call.{Step}
 use Rattle.hub.specs.declared.Hub.{Hub}

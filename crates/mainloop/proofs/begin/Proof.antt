@@ -4,8 +4,8 @@ use mathlib.Core.List.{[]}
 use lib.ListN.{replicate}
 use Rattle.calls.specs.Call.{Open, final}
 use Rattle.hub.specs.declared.Hub.{Hub}
-use Rattle.hub.specs.Hub.{onHub}
-use Rattle.mainloop.specs.Rounds.{sixteen}
+use Rattle.hub.specs.Hub.{drawHub, onHub}
+use Rattle.mainloop.specs.Rounds.{lentOut, sixteen}
 use Rattle.mainloop.proofs.begin.Statement.{statement}
 use Rattle.mainloop.proofs.begin.Tie as tie
 
@@ -27,6 +27,9 @@ slice-aggregate-open-eight c = search needs
 open-eight-requires-2 : tie.Need-open-eight-requires-2
 open-eight-requires-2 c κs = search needs
 
+draw-requires : tie.Need-draw-requires
+draw-requires c κs = search needs
+
 slice-aggregate-write-all-2 : tie.Need-slice-aggregate-write-all-2
 slice-aggregate-write-all-2 c = search needs
 
@@ -45,9 +48,10 @@ write-all-requires-3 c κs = search needs
 returns : tie.Need-returns
 unfolding sixteen
 returns c =
-    c .before .before .before .before .before .open-eight2 .ensures
-    ∙ ap (λ (h : Hub). final onHub h (replicate 8 (Open 3 [])))
-    (c .before .before .before .before .before .before .before .open-eight .ensures ∙ ap (λ (h : Hub). final onHub h (replicate 8 (Open 1 (c .before .before .before .before .before .before .before .before .before .before .before .before .before .args .key .now)))) (c .before .before .before .before .before .before .before .before .empty .ensures))
+    let key = c .before .before .before .before .before .before .before .before .before .before .before .before .before .before .args .key .now in
+    let prf = c .before .before .before .before .before .before .before .before .open-eight .ensures ∙ ap (λ (h : Hub). final onHub h (replicate 8 (Open 1 key))) (c .before .before .before .before .before .before .before .before .before .empty .ensures) in
+    let all = c .before .before .before .before .before .before .open-eight2 .ensures ∙ ap (λ (h : Hub). final onHub h (replicate 8 (Open 3 []))) prf in
+    c .before .before .before .before .before .draw .ensures ∙ ap (λ (h : Hub). drawHub 14 lentOut 0 3 h .after) all
 
 pub begin-spec : {M : Type 1} → statement M
 begin-spec =
@@ -59,6 +63,7 @@ begin-spec =
     open-eight-requires
     slice-aggregate-open-eight
     open-eight-requires-2
+    draw-requires
     slice-aggregate-write-all-2
     write-all-requires-2
     print-bytes-requires

@@ -4,7 +4,7 @@ use borrow.Author.Tests.{eq-eqb, ne-eqb}
 use lib.Dec.{eqb}
 use Rattle.mode.specs.Mode.{numberOf}
 use Rattle.sponge.specs.declared.record.Record.{Record}
-use Rattle.sponge.specs.Record.{finished, tagMatches}
+use Rattle.sponge.specs.Record.{tagMatches}
 use Rattle.calls.specs.declared.Answer.{Answer}
 use Rattle.calls.specs.Answer.{judged}
 use Rattle.hub.specs.Records.{workedOf}

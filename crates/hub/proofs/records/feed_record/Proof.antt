@@ -3,7 +3,6 @@ use mathlib.Core.Path.{_≡_, sym, ap, _∙_}
 use Prim.Native.Nat.{ℕ, _+_}
 use lib.Dec.{ltb}
 use lib.ListN.{length}
-use Rattle.sponge.specs.declared.record.Record.{Record}
 use Rattle.calls.specs.Checks.{mostFed}
 use Rattle.hub.specs.Records.{workedOf, counting}
 use Rattle.hub.proofs.RecordCalls.{feed-found, feed-15, feed-16, feed-done}
