@@ -42,7 +42,7 @@ abbrev pub replied : ℕ → Worked → Hub → Reply
 replied p w h = record { hub = putAt p (w .after) h; answer = w .answer }
 
 -- what was in place p, put back, leaves the hub as it was
-put-same : (p : ℕ) (h : Hub) → putAt p (recordAt p h) h ≡ h
+pub put-same : (p : ℕ) (h : Hub) → putAt p (recordAt p h) h ≡ h
 put-same p h i = record { records = set-getD (h .records) p noRecord i; issued = h .issued; closed = h .closed }
 
 -- an open ticket's standing is its record's

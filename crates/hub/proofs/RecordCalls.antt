@@ -1,8 +1,8 @@
 -- What a call makes of its ticket's record, by which of its checks fails first.
 -- Assumes nothing.
 use mathlib.Core.Bool.{true, false, not, _||_}
-use mathlib.Core.Path.{_≡_}
-use mathlib.Core.List.{List, []}
+use mathlib.Core.Path.{_≡_, refl}
+use mathlib.Core.List.{List, [], _∷_}
 use mathlib.Core.Logic.{_≢_}
 use Prim.Native.Nat.{ℕ, _+_}
 use borrow.Author.Tests.{ne-eqb}
@@ -14,8 +14,9 @@ use Rattle.sponge.specs.Record.{vacant, absorbed, finished, nextBytes, squeezed
 use Rattle.calls.specs.Answer.{counted, judged}
 use Rattle.checks.specs.Buffers.{written}
 use Rattle.calls.specs.Checks.{mostFed, shortestTag, longestTag, feedOwn, drawOwn, checkOwn}
-use Rattle.calls.specs.Call.{step, refuse}
-use Rattle.hub.specs.Records.{feedRecord, drawRecord, checkRecord, closeRecord}
+use Rattle.calls.specs.Call.{Step, step, refuse}
+use Rattle.checks.proofs.Checks.{checked-each}
+use Rattle.hub.specs.Records.{standingAs, found, feedRecord, drawRecord, checkRecord, closeRecord}
 
 module _ (n : ℕ) (r : Record) where
   -- ---- feed
@@ -90,3 +91,18 @@ module _ (n : ℕ) (r : Record) where
   pub close-done : n ≡ 0 → closeRecord n r ≡ step vacant (counted (r .runs)) []
   unfolding closeRecord
   close-done e = rw e
+
+-- ---- a call that is refused leaves the record, and answers with no runs
+
+module _ (n : ℕ) (r : Record) where
+  abbrev Kept : Step Record → Type 0
+  Kept s = s .response .answer .refusal ≢ 0 → (s .after ≡ r) × (s .response .answer .runs ≡ 0)
+
+  pub feed-kept : (bytes : List ℕ) → Kept (feedRecord n bytes r)
+  unfolding feedRecord
+  feed-kept bytes =
+      checked-each Kept (found n ∷ feedOwn (standingAs r) bytes) (refuse r []) (step (absorbed bytes r) (counted (absorbed bytes r .runs)) []) (λ k h. (refl, refl)) (λ pass h. absurd (h refl))
+
+  pub close-kept : Kept (closeRecord n r)
+  unfolding closeRecord
+  close-kept = checked-each Kept (found n ∷ []) (refuse r []) (step vacant (counted (r .runs)) []) (λ k h. (refl, refl)) (λ pass h. absurd (h refl))

@@ -1,6 +1,5 @@
 // Feed and close on a hub that stays in its memory and is altered there: document 01's "For the controller's main loop". The answer and the hub are those of the same
-// call by value. No more of the hub is written than one record and, by a close, the runs of the closed tickets; a refused call writes back what it read, for 11 and 12 in
-// place 0.
+// call by value. An accepted call writes one record and, where it is a close, the runs of the closed tickets; a refused one writes nothing.
 use super::Hub;
 use super::places::locate;
 use super::records::close_record;
@@ -16,7 +15,9 @@ pub fn feed(hub: &mut Hub, ticket: u32, bytes: &[u8]) -> Answer
 {
     let located = locate(*hub, ticket);
     let fed = feed_record(located.refusal, hub.records[located.place], bytes);
-    hub.records[located.place] = fed.after;
+    if fed.answer.refusal == 0 {
+        hub.records[located.place] = fed.after;
+    }
     fed.answer
 }
 
@@ -27,8 +28,9 @@ pub fn close(hub: &mut Hub, ticket: u32) -> Answer
 {
     let located = locate(*hub, ticket);
     let closed = close_record(located.refusal, hub.records[located.place]);
-    hub.records[located.place] = closed.after;
-    // A refused close answers with no runs.
-    hub.closed = std::num::wrapping_add_u64(hub.closed, closed.answer.runs);
+    if closed.answer.refusal == 0 {
+        hub.records[located.place] = closed.after;
+        hub.closed = std::num::wrapping_add_u64(hub.closed, closed.answer.runs);
+    }
     closed.answer
 }
