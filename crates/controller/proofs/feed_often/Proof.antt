@@ -53,7 +53,7 @@ use Rattle.calls.proofs.Answer.Laws as S′
 use Rattle.hub.proofs.Hub as T
 use Rattle.hub.proofs.Hub.Laws as T′
 use Rattle.hub.proofs.InPlace.{hubVal, IsHub}
-use Rattle.hub.proofs.Lending.{bytesVal, Bytes, held, Feed, feeds}
+use Rattle.controller.proofs.Lending.{bytesVal, Bytes, held, Feed, feeds}
 use Rattle.hub.proofs.in_place.feed.Symbol as feed-def
 use Rattle.hub.proofs.in_place.feed.Symbol.{name as #feed}
 use Rattle.hub.proofs.in_place.feed.Met as feed-thm

@@ -54,7 +54,7 @@ use Rattle.calls.proofs.Answer.Laws as S′
 use Rattle.hub.proofs.Hub as T
 use Rattle.hub.proofs.Hub.Laws as T′
 use Rattle.hub.proofs.InPlace.{hubVal, ansVal, IsHub, IsAns}
-use Rattle.hub.proofs.Lending.{bytesVal, Bytes, held, Feed, feeds, Close, closes}
+use Rattle.controller.proofs.Lending.{bytesVal, Bytes, held, Feed, feeds, Close, closes}
 use Rattle.hub.proofs.in_place.feed.Symbol as feed-def
 use Rattle.hub.proofs.in_place.feed.Symbol.{name as #feed}
 use Rattle.hub.proofs.in_place.feed.Met as feed-thm

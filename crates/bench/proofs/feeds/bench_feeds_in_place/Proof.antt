@@ -1,11 +1,5 @@
-use mathlib.Core.Path.{ap, _∙_}
 use borrow.Author.Needs.{needs}
-use mathlib.Core.List.{[]}
-use lib.ListN.{replicate}
-use Rattle.calls.specs.Call.{Feed, final}
-use Rattle.hub.specs.declared.Hub.{Hub}
-use Rattle.hub.specs.Hub.{feedHub, onHub}
-use Rattle.bench.specs.Feeds.{feedsRuns}
+use Rattle.bench.proofs.FeedCounts.{count-given}
 use Rattle.bench.proofs.feeds.bench_feeds_in_place.Statement.{statement}
 use Rattle.bench.proofs.feeds.bench_feeds_in_place.Tie as tie
 
@@ -19,12 +13,7 @@ runs-requires : tie.Need-runs-requires
 runs-requires c κs = search needs
 
 returns : tie.Need-returns
-unfolding feedsRuns
-returns c =
-    let a = c .before .before .before .before .args in
-    c .runs .ensures
-    ∙ ap (λ (h : Hub). feedHub (a .ticket) [] h .response .answer .runs)
-    (c .before .feed-often .ensures ∙ ap (λ (h : Hub). final onHub h (replicate (a .times) (Feed (a .ticket) (a .bytes .now)))) (c .before .before .sixteen .ensures))
+returns c = count-given _ _ _ _ _ _ (c .before .before .sixteen .ensures) (c .before .feed-often .ensures) (c .runs .ensures)
 
 pub bench-feeds-in-place-spec : {M : Type 1} → statement M
 bench-feeds-in-place-spec = tie.close (tie.spec sixteen-requires feed-often-requires runs-requires returns)
