@@ -2,6 +2,14 @@
 use script::{assert_prints, program, Talk};
 use std::fs::File;
 
+/// The line stops a script as its first line and, after `begun`, as its third; what follows it changes nothing.
+fn assert_stops(begun: &str, line: &str, rest: &str) {
+    let first = format!("{line}{rest}");
+    assert_prints(first.as_bytes(), b"answer number bytes\nstop 1 -\n");
+    let later = format!("call number bytes\nsum 0 -\n{begun}{line}{rest}");
+    assert_prints(later.as_bytes(), b"answer number bytes\nok 0 -\nstop 3 -\n");
+}
+
 #[test]
 fn the_longest_well_formed_line() {
     let longest = format!("check 4294967295 {}", "0f".repeat(1_024));
@@ -39,10 +47,7 @@ fn lines_about_2100_bytes() {
                     "\nsum 0 -\n",
                     "\ncall number bytes\nsum 0 -\n",
                 ] {
-                    let first = format!("{line}{rest}");
-                    assert_prints(first.as_bytes(), b"answer number bytes\nstop 1 -\n");
-                    let later = format!("call number bytes\nsum 0 -\n{line}{rest}");
-                    assert_prints(later.as_bytes(), b"answer number bytes\nok 0 -\nstop 3 -\n");
+                    assert_stops("", &line, rest);
                 }
             }
         }
@@ -55,10 +60,7 @@ fn a_line_that_never_ends() {
     for byte in ["x", " ", "0", "\0", "\r"] {
         let line = byte.repeat(5_000_000);
         for rest in ["", "\n", "\nsum 0 -\n"] {
-            let first = format!("{line}{rest}");
-            assert_prints(first.as_bytes(), b"answer number bytes\nstop 1 -\n");
-            let later = format!("call number bytes\nsum 0 -\nfeed 1 {line}{rest}");
-            assert_prints(later.as_bytes(), b"answer number bytes\nok 0 -\nstop 3 -\n");
+            assert_stops("feed 1 ", &line, rest);
         }
     }
 }
