@@ -1,4 +1,4 @@
-/* A sensor's frame from end to end: its key is drawn from the master key, a frame is sealed, judged, and judged again after damage on the way.
+/* A sensor's frame from end to end: its key is derived from the master key, a frame is sealed, judged, and judged again after damage on the way.
  *
  * Build: rt staticlib sign && cc -std=c99 -Iinclude -o target/sign examples/sign.c target/staticlib/libsign.a */
 #include "sign.h"
@@ -7,7 +7,7 @@
 #include <string.h>
 
 /* The key of a sensor: the short function of its name, 16 bytes, under the master key. Gives the answer of the short function. */
-static uint32_t draw_key(const uint8_t master[ASCON_KEY_LENGTH], const char *name, uint8_t sensor[ASCON_KEY_LENGTH]) {
+static uint32_t derive_key(const uint8_t master[ASCON_KEY_LENGTH], const char *name, uint8_t sensor[ASCON_KEY_LENGTH]) {
     return ascon_prf_short(master, ASCON_KEY_LENGTH, (const uint8_t *)name, strlen(name), sensor, ASCON_KEY_LENGTH, ASCON_KEY_LENGTH);
 }
 
@@ -34,7 +34,7 @@ int main(void) {
     uint8_t key[ASCON_KEY_LENGTH], frame[BODY + ASCON_TAG_LENGTH];
 
     /* A name of more than 16 bytes would be refused with 5, and the key would stay unset: never go on after a refusal. */
-    if (draw_key(master, "ramp 2 sensor 07", key) != ASCON_DONE) return 1;
+    if (derive_key(master, "ramp 2 sensor 07", key) != ASCON_DONE) return 1;
     print_hex("key  ", key, sizeof key);
 
     /* The body first, and room for the tag behind it. */

@@ -9,6 +9,11 @@
 #include <stddef.h>
 #include <stdint.h>
 
+/* Lengths are of type size_t, and of 64 bits. */
+#if SIZE_MAX != UINT64_MAX
+#error "libbench.a is for x86-64, where size_t has 64 bits"
+#endif
+
 #ifdef __cplusplus
 extern "C" {
 #endif
@@ -25,12 +30,13 @@ uint64_t bench_permute_chain(uint64_t x0, uint64_t times);
  * Modes 3 and 4 take no notice of a key.
  * The message is fed in two parts, the first of `cut` bytes, and the output is drawn in two, the first of `first` bytes; a number past the end is the end.
  * Neither number makes a difference to what is written or given.
+ * Any number of bytes may be fed and drawn: the limits of a ticket are the hub's.
  * A `mode` that is not 1 to 4 is answered 0, and nothing is written. */
 uint64_t bench_sponge(const uint8_t *key, size_t key_length, const uint8_t *message, size_t message_length, uint8_t *out, size_t out_length,
                       uint32_t mode, size_t cut, size_t first);
 
-/* Gives 1 where the tag equals as many first bytes of the message's MAC of 16 bytes, and 0 where it does not or is longer.
- * Every byte of the tag is looked at, whatever the others are. */
+/* Gives 1 where the tag equals as many first bytes of the message's MAC of 16 bytes, so that a tag of no bytes passes, and 0 where it does not or is longer.
+ * The key is taken as by bench_sponge. Every byte of the tag is looked at, whatever the others are. */
 uint32_t bench_tag(const uint8_t *key, size_t key_length, const uint8_t *message, size_t message_length, const uint8_t *tag, size_t tag_length);
 
 /* Seal and judge a frame as include/sign.h's functions do, with the same checks, and give the runs that were made, floor(body / 32) + 2; 0 where it is refused. */

@@ -1,6 +1,6 @@
 /* Ascon for sign firmware: the C functions of target/staticlib/libsign.a, which `rt staticlib sign` writes for x86-64.
  *
- * A sign draws its key from a master key by the short function, seals the frames that it sends, and judges the frames that it gets.
+ * A sign derives its key from a master key by the short function, seals the frames that it sends, and judges the frames that it gets.
  *
  * Each function answers with one number:
  *     0    done, or the frame passes
@@ -15,7 +15,7 @@
  *     - Each pointer is valid for as many bytes as the length after it says, and is not null, not even for a length of 0.
  *     - The buffer that a call writes overlaps no other buffer of the call.
  * Nothing is kept between calls and nothing is allocated, so that any number of threads may call at once.
- * The code branches on lengths and on the verdict, and on no byte of a key, a message, a body or a tag; that is so by its text, and is not proved.
+ * The code branches on lengths, and neither a branch nor an address depends on a byte of a key, a message, a body or a tag, but for the verdict; that is tested under valgrind, and is not proved.
  * The stack may keep copies of a key's bytes after a call. */
 #ifndef SIGN_H
 #define SIGN_H

@@ -1,3 +1,2 @@
 pub mod Sbox
 pub mod State
-pub mod Examples

@@ -1,15 +1,11 @@
--- Examples of the short function that the checker computes: document 01's two start words, and one output.
+-- One output of the short function, which the checker computes.
 -- Assumes nothing.
 use mathlib.Core.List.{[], _∷_}
 use mathlib.Core.Path.{_≡_, refl}
 use Rattle.word.specs.Word.{bit, word, number, column, rotr}
 use Rattle.word.specs.Bytes.{weight, byteAt, bytesFrom, xorBytes, fromBytes, wordsOf}
 use Rattle.permutation.specs.Permutation.{addConstant, sbox, atEveryPlace, substitute, mix, diffuse, round, permute}
-use Rattle.prf_short.specs.Short.{zerosTo, lastBytes, startValue, startWord, start, ended, prfShort}
-
-pub examples : (startWord 0 16 ≡ 0x8000_4c80_0000_0000) × (startWord 1 8 ≡ 0x8008_4c40_0000_0000)
-unfolding fromBytes startValue
-examples = (refl, refl)
+use Rattle.prf_short.specs.Short.{zerosTo, lastBytes, startValue, start, ended, prfShort}
 
 -- five bytes for a message of three: neither the message nor the output is as long as it may be, so that each part of the start and both ends count
 pub known-output : prfShort (0 ∷ 1 ∷ 2 ∷ 3 ∷ 4 ∷ 5 ∷ 6 ∷ 7 ∷ 8 ∷ 9 ∷ 10 ∷ 11 ∷ 12 ∷ 13 ∷ 14 ∷ 15 ∷ []) (0 ∷ 1 ∷ 2 ∷ []) 5

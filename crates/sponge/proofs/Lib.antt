@@ -6,5 +6,4 @@ pub mod Parts
 pub mod Tags
 pub mod Calls
 pub mod Streaming
-pub mod Examples
 pub mod Initial
