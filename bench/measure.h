@@ -1,19 +1,54 @@
-/* Times two ways of doing the same work in one run, in alternating pairs. */
+/* Measures two ways of doing the same work in one run, in alternating pairs, and prints what they took as lines of one table. */
 #ifndef MEASURE_H
 #define MEASURE_H
 
-/* One batch of the work; `with` is what `compare` was handed. */
-typedef void batch(void *with);
+#include <stddef.h>
+#include <stdint.h>
 
-/* Prints the heading of the table that `compare` adds lines to. */
-void heading(void);
+enum { MOST_PAIRS = 1001 };
+enum side { PROVED, PLAIN, SIDES };
 
-/* Times `pairs` pairs of batches, the proved code and plain C, and prints a line:
-   the median time and, where the machine tells them, the cycles of one unit of each, and the median and the quartiles of the pairs' ratios.
-   A batch does `units` units. */
-void compare(const char *name, batch *proved, batch *plain, void *with, int pairs, double units);
+/* What a line of the table is about. */
+struct row {
+    const char *what;
+    size_t bytes;          /* that one call takes in; 0 where a figure by the byte means nothing */
+    int calls;             /* in a batch */
+    const char *table5[2]; /* cycles per byte in table 5 of source document 003, for the i5-6300U and the i5-4200U; null where it has none */
+};
 
-/* Sorts values, and gives the one with the given share of them below it: 0.5 for the median, 0.25 and 0.75 for the quartiles. */
-double share(double *values, int n, double part);
+/* One figure of both sides, pair by pair. */
+struct figure {
+    int pairs;
+    double of[SIDES][MOST_PAIRS];
+};
+
+void print_heading(void);
+
+/* Prints a line: the medians of a figure, the median and the quartiles of the pairs' ratios and, unless they are null, the medians of what was counted in one call,
+   by the byte. */
+void print_row(const struct row *row, const char *unit, const struct figure *figure, const struct figure *counts);
+
+/* Has both sides measured once in each pair. The side that goes first changes from pair to pair, so that a drift of the clock favours neither. */
+typedef void measurement(enum side side, int pair, void *with);
+void alternate(int pairs, measurement *measure, void *with);
+
+/* A batch of calls: as many as the row says, on as many bytes. */
+typedef void batch(const struct row *row);
+
+/* A proved function and its peer in plain C, as batches, and the memory that what they give lies in. */
+struct peers {
+    batch *of[SIDES];
+    void *given;
+    size_t size;
+};
+
+/* Ends the program where a batch of one side, begun with the same memory, leaves something else in it than a batch of the other. */
+void agree(const struct row *row, const struct peers *peers);
+
+/* Has the two agree, times them, and prints the row: nanoseconds of one call, in processor time of this process. */
+void compare(const struct row *row, const struct peers *peers, int pairs);
+
+/* Bytes to work on. */
+void fill(uint8_t *bytes, size_t length);
 
 #endif

@@ -1,56 +1,29 @@
 /* The proved permutation beside the same in plain C: as a chain of values, and as a call on a lent row. */
 #include "bench.h"
 #include "measure.h"
+#include "parts.h"
 #include "plain.h"
 
-#include <stdio.h>
-#include <string.h>
+enum { CALLS = 5000 };
 
-enum { PAIRS = 1001, BATCH = 5000 };
+static struct {
+    uint64_t state[5], answer;
+} given = {{0x00400c0000000100u}, 0};
 
-static const uint64_t start[5] = {0x00400c0000000100u, 0, 0, 0, 0};
+static void proved_chain(const struct row *row) { given.answer = bench_permute_chain(1, (uint64_t)row->calls); }
+static void plain_chain(const struct row *row) { given.answer = plain_permute_chain(1, (uint64_t)row->calls); }
 
-/* What the last batch gave. */
-static uint64_t given;
-
-static void proved_chain(void *with) {
-    (void)with;
-    given = bench_permute_chain(start[0], BATCH);
+static void proved_row(const struct row *row) {
+    for (int i = 0; i < row->calls; i++) given.answer = bench_permute_row(given.state, 5);
 }
 
-static void plain_chain(void *with) {
-    (void)with;
-    given = plain_permute_chain(start[0], BATCH);
+static void plain_row(const struct row *row) {
+    for (int i = 0; i < row->calls; i++) given.answer = plain_permute_row(given.state, 5);
 }
 
-static void proved_row(void *with) {
-    for (int i = 0; i < BATCH; i++) given = bench_permute_row(with, 5);
-}
-
-static void plain_row(void *with) {
-    for (int i = 0; i < BATCH; i++) given = plain_permute_row(with, 5);
-}
-
-/* Whether a batch of each side gives and leaves the same. */
-static int agree(batch *proved, batch *plain) {
-    uint64_t a[5], b[5], first;
-    memcpy(a, start, sizeof a);
-    memcpy(b, start, sizeof b);
-    proved(a);
-    first = given;
-    plain(b);
-    return given == first && memcmp(a, b, sizeof a) == 0;
-}
-
-int main(void) {
-    uint64_t row[5];
-    if (!agree(proved_chain, plain_chain) || !agree(proved_row, plain_row)) {
-        fputs("the proved permutation and the plain one differ\n", stderr);
-        return 1;
-    }
-    heading();
-    compare("permutation, by value", proved_chain, plain_chain, 0, PAIRS, BATCH);
-    memcpy(row, start, sizeof row);
-    compare("permutation, lent row", proved_row, plain_row, row, PAIRS, BATCH);
-    return 0;
+void permutation_rows(int pairs) {
+    static const struct row by_value = {"permutation, by value", 0, CALLS, {0, 0}}, lent = {"permutation, lent row", 0, CALLS, {0, 0}};
+    static const struct peers chains = {{proved_chain, plain_chain}, &given, sizeof given}, rows = {{proved_row, plain_row}, &given, sizeof given};
+    compare(&by_value, &chains, pairs);
+    compare(&lent, &rows, pairs);
 }

@@ -1,23 +1,21 @@
-/* The program rampscript beside the same in plain C (script.c): the time of a script's line, lines a second, and peak memory for a long script and a short one.
- * It takes the two programs, and a folder for the scripts and what is printed for them. */
-#define _GNU_SOURCE
+/* The program rampscript beside the same in plain C (script.c): the time of a script's line, lines a second, and peak memory for a short script and a long one.
+ * A program is timed from its start to its end. */
 #include "measure.h"
+#include "parts.h"
+#include "process.h"
 
-#include <fcntl.h>
 #include <inttypes.h>
 #include <stdio.h>
 #include <stdlib.h>
-#include <string.h>
-#include <sys/resource.h>
-#include <sys/wait.h>
-#include <time.h>
-#include <unistd.h>
 
-enum { PAIRS = 41, TICKETS = 16, LONG = 200000, SHORT = 20000, PATH = 4096 };
+enum { TICKETS = 16, NAMES = 1, SHORT = 20000, LONG = 200000, PATH = 4096 };
 
-struct result {
-    double seconds; /* by the clock: a shared machine's accounting of processor time is too coarse for so short a run */
-    long peak;      /* KiB */
+/* A script, the two programs that run it, and what they took. */
+struct script {
+    char path[PATH];
+    int lines;
+    const char *programs[SIDES];
+    struct figure line, rate, peak;
 };
 
 static void fail(const char *what) {
@@ -55,34 +53,16 @@ static void write_script(const char *path, int feeds) {
     if (ferror(file) || fclose(file)) fail(path);
 }
 
-static double now(void) {
-    struct timespec time;
-    clock_gettime(CLOCK_MONOTONIC, &time);
-    return (double)time.tv_sec + 1e-9 * (double)time.tv_nsec;
+static void time_run(enum side side, int pair, void *with) {
+    struct script *s = with;
+    double seconds = processor_seconds(s->programs[side], s->path, "/dev/null");
+    s->line.of[side][pair] = 1e9 * seconds / s->lines;
+    s->rate.of[side][pair] = s->lines / seconds;
 }
 
-/* Runs a program on a script. What it prints goes to a file. */
-static struct result run(const char *program, const char *script, const char *output) {
-    struct rusage usage;
-    struct result result;
-    int status;
-    double start = now();
-    pid_t child = fork();
-    if (child < 0) fail("fork");
-    if (child == 0) {
-        int in = open(script, O_RDONLY), out = open(output, O_WRONLY | O_CREAT | O_TRUNC, 0666);
-        if (in < 0 || out < 0 || dup2(in, 0) < 0 || dup2(out, 1) < 0) _exit(126);
-        execl(program, program, (char *)0);
-        _exit(127);
-    }
-    if (wait4(child, &status, 0, &usage) < 0) fail("wait4");
-    result.seconds = now() - start;
-    if (!WIFEXITED(status) || WEXITSTATUS(status)) {
-        fprintf(stderr, "%s did not end well on %s\n", program, script);
-        exit(1);
-    }
-    result.peak = usage.ru_maxrss;
-    return result;
+static void weigh_run(enum side side, int pair, void *with) {
+    struct script *s = with;
+    s->peak.of[side][pair] = peak_kibibytes(s->programs[side], s->path, "/dev/null");
 }
 
 /* Whether two files hold the same, and more than the lines of names. */
@@ -102,44 +82,35 @@ static int same(const char *a, const char *b) {
     return c == d && length > 1000;
 }
 
-int main(int count, char **arguments) {
-    static double proved[PAIRS], plain[PAIRS], ratio[PAIRS];
-    const int feeds[2] = {LONG, SHORT};
-    char script[2][PATH], printed[2][PATH];
-    struct result peak[2][2];
-    double lines = 1 + TICKETS + LONG;
-    if (count != 4 || strlen(arguments[3]) > PATH - 64) {
-        fprintf(stderr, "usage: %s PROVED PLAIN FOLDER\n", arguments[0]);
-        return 2;
+/* Writes the script, and holds what the two programs print for it to each other. */
+static void prepare(struct script *s, int feeds, int pairs, const char *proved, const char *plain, const char *folder) {
+    char printed[SIDES][PATH];
+    s->lines = NAMES + TICKETS + feeds;
+    s->programs[PROVED] = proved;
+    s->programs[PLAIN] = plain;
+    s->line.pairs = s->rate.pairs = s->peak.pairs = pairs;
+    snprintf(s->path, PATH, "%s/%d.script", folder, feeds);
+    write_script(s->path, feeds);
+    for (int side = 0; side < SIDES; side++) {
+        snprintf(printed[side], PATH, "%s/%d.printed", folder, side);
+        processor_seconds(s->programs[side], s->path, printed[side]);
     }
+    if (same(printed[PROVED], printed[PLAIN])) return;
+    fprintf(stderr, "the two programs differ on %s: %s and %s\n", s->path, printed[PROVED], printed[PLAIN]);
+    exit(1);
+}
+
+void script_rows(int pairs, const char *proved, const char *plain, const char *folder) {
+    static const struct row line = {"script, feed of 32 bytes", 0, 1, {0, 0}}, rate = {"script, speed", 0, 1, {0, 0}};
+    static const struct row peaks[2] = {{"script, peak, 200,017 lines", 0, 1, {0, 0}}, {"script, peak, 20,017 lines", 0, 1, {0, 0}}};
+    static struct script scripts[2];
+    prepare(&scripts[0], LONG, pairs, proved, plain, folder);
+    prepare(&scripts[1], SHORT, pairs, proved, plain, folder);
+    alternate(pairs, time_run, &scripts[0]);
+    print_row(&line, "ns", &scripts[0].line, 0);
+    print_row(&rate, "lines/s", &scripts[0].rate, 0);
     for (int i = 0; i < 2; i++) {
-        sprintf(script[i], "%s/%d.script", arguments[3], feeds[i]);
-        sprintf(printed[i], "%s/%d.printed", arguments[3], i);
-        write_script(script[i], feeds[i]);
+        alternate(pairs, weigh_run, &scripts[i]);
+        print_row(&peaks[i], "KiB", &scripts[i].peak, 0);
     }
-    for (int i = 0; i < 2; i++) {
-        for (int k = 0; k < 2; k++) peak[i][k] = run(arguments[1 + k], script[i], printed[k]);
-        if (!same(printed[0], printed[1])) {
-            fprintf(stderr, "the two programs differ on %s: %s and %s\n", script[i], printed[0], printed[1]);
-            return 1;
-        }
-    }
-    for (int i = 0; i < PAIRS; i++) {
-        double seconds[2];
-        for (int k = 0; k < 2; k++) {
-            int which = (i + k) % 2;
-            seconds[which] = run(arguments[1 + which], script[0], "/dev/null").seconds;
-        }
-        proved[i] = seconds[0];
-        plain[i] = seconds[1];
-        ratio[i] = seconds[0] / seconds[1];
-    }
-    double p = share(proved, PAIRS, 0.5), c = share(plain, PAIRS, 0.5);
-    printf("%-28s %9s %9s   %s\n", "rampscript", "proved", "plain C", "ratio: median (quartiles)");
-    printf("%-28s %9.1f %9.1f   %.3f (%.3f to %.3f)\n", "line of 32 bytes fed, ns", 1e9 * p / lines, 1e9 * c / lines, share(ratio, PAIRS, 0.5),
-           share(ratio, PAIRS, 0.25), share(ratio, PAIRS, 0.75));
-    printf("%-28s %9.0f %9.0f\n", "lines a second", lines / p, lines / c);
-    printf("%-28s %9ld %9ld\n", "peak, 200,017 lines, KiB", peak[0][0].peak, peak[0][1].peak);
-    printf("%-28s %9ld %9ld\n", "peak, 20,017 lines, KiB", peak[1][0].peak, peak[1][1].peak);
-    return 0;
 }

@@ -159,10 +159,7 @@ static uint32_t call_open(uint32_t mode, size_t key) {
     return 0;
 }
 
-static uint32_t call_feed(uint32_t ticket, size_t count) {
-    struct record *r;
-    uint32_t refusal = find(ticket, &r);
-    if (refusal) return refusal;
+static uint32_t call_feed(struct record *r, size_t count) {
     if (!r->feeding) return 15;
     if (r->fed + count > MOST_FED) return 16;
     feed(r, count);
@@ -170,10 +167,7 @@ static uint32_t call_feed(uint32_t ticket, size_t count) {
     return 0;
 }
 
-static uint32_t call_draw(uint32_t ticket, size_t count) {
-    struct record *r;
-    uint32_t refusal = find(ticket, &r);
-    if (refusal) return refusal;
+static uint32_t call_draw(struct record *r, size_t count) {
     if (r->drawn + count > modes[r->mode].most_drawn) return 17;
     end_feeding(r);
     draw(r, count);
@@ -181,10 +175,7 @@ static uint32_t call_draw(uint32_t ticket, size_t count) {
     return 0;
 }
 
-static uint32_t call_check(uint32_t ticket, size_t tag) {
-    struct record *r;
-    uint32_t refusal = find(ticket, &r);
-    if (refusal) return refusal;
+static uint32_t call_check(struct record *r, size_t tag) {
     if (r->mode != 2) return 18;
     if (tag < 8 || tag > 16) return 4;
     end_feeding(r);
@@ -192,14 +183,19 @@ static uint32_t call_check(uint32_t ticket, size_t tag) {
     return 0;
 }
 
-static uint32_t call_close(uint32_t ticket) {
-    struct record *r;
-    uint32_t refusal = find(ticket, &r);
-    if (refusal) return refusal;
+static uint32_t call_close(struct record *r, size_t none) {
+    (void)none;
     r->ticket = 0;
     hub.closed_runs += r->runs;
     answer("ok", r->runs, 0);
     return 0;
+}
+
+/* A call on a ticket. */
+static inline uint32_t on(uint32_t ticket, uint32_t (*call)(struct record *, size_t), size_t count) {
+    struct record *r;
+    uint32_t refusal = find(ticket, &r);
+    return refusal ? refusal : call(r, count);
 }
 
 static uint32_t call_sum(void) {
@@ -259,17 +255,17 @@ static int run_line(const uint8_t *p, const uint8_t *end) {
     if (!p || !read_bytes(p, end, &count)) return 0;
     switch (which) {
     case 0: refusal = call_open(number, count); break;
-    case 1: refusal = call_feed(number, count); break;
+    case 1: refusal = on(number, call_feed, count); break;
     case 2:
         if (count != 2) return 0;
         count = (size_t)bytes[0] << 8 | bytes[1];
         if (count > MOST_BYTES) return 0;
-        refusal = call_draw(number, count);
+        refusal = on(number, call_draw, count);
         break;
-    case 3: refusal = call_check(number, count); break;
+    case 3: refusal = on(number, call_check, count); break;
     case 4:
         if (count) return 0;
-        refusal = call_close(number);
+        refusal = on(number, call_close, count);
         break;
     default:
         if (number || count) return 0;
