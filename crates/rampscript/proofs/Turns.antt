@@ -93,30 +93,38 @@ pick-false b x y e = rw e
 
 -- the names were not written
 pub ending-none : (line : List ℕ) (s : Session) → s ≡ begun → Ending line (record { session = s; started = false; failed = false; wrote = false }) line
-unfolding fedAll
-ending-none line s e = record { chunks = []; reader = ap (λ (x : Session). readerOf x line) e }
+ending-none line s e =
+    record {
+      turn = record { session = s; count = 0; failed = false; wrote = false };
+      buffer = line;
+      ran = λ f. absurd (false≢true f);
+      unread = λ f. ap (λ (x : Session). readerOf x line) e;
+      reader = refl;
+    }
 
 module _ (line : List ℕ) (t : Turn) (line′ : List ℕ) (w : Running (atFirst line) t line′) where
-  -- all that was fed
-  fed-in-all : List (List ℕ)
-  fed-in-all = w .before ++ (w .last .answering .taken ∷ [])
-
-  then-last : readerOf (t .session) line′ ≡ fedAll (atFirst line) fed-in-all .reader
-  unfolding fed-in-all
-  then-last = w .last .answering .reader ∙ sym (fed-last (atFirst line) (w .before) (w .last .answering .taken))
-
   abbrev ended : Session → Ended
   ended s = record { session = s; started = true; failed = t .failed; wrote = t .wrote }
 
   -- a read or a write failed
   pub ending-early : finishes (ended (t .session)) ≡ false → Ending line (ended (t .session)) line′
-  ending-early e = record { chunks = fed-in-all; reader = then-last ∙ sym (pick-false (finishes (ended (t .session))) _ _ e) }
+  ending-early e =
+      record {
+        turn = t;
+        buffer = line′;
+        ran = λ f. (w, (refl, refl));
+        unread = λ f. absurd (false≢true (sym f));
+        reader = sym (pick-false (finishes (ended (t .session))) _ _ e);
+      }
 
   -- the input has ended
   pub ending-whole : (s : Session) (line″ : List ℕ) → finishes (ended s) ≡ true
       → s ≡ finished (readerOf (t .session) line′) .reader .session → line″ ≡ finished (readerOf (t .session) line′) .reader .line → Ending line (ended s) line″
   ending-whole s line″ e p q =
       record {
-        chunks = fed-in-all;
-        reader = rw (p, q) (ap (λ (x : Reader). finished x .reader) then-last) ∙ sym (pick-true (finishes (ended s)) _ _ e);
+        turn = t;
+        buffer = line′;
+        ran = λ f. (w, (refl, refl));
+        unread = λ f. absurd (false≢true (sym f));
+        reader = rw (p, q) refl ∙ sym (pick-true (finishes (ended s)) _ _ e);
       }

@@ -47,7 +47,13 @@ pub record Running (r : Reader) (t : Turn) (line : List ℕ) : Type 0 where
 abbrev pub finishes : Ended → Bool
 finishes e = e .started && (not (e .failed) && e .wrote)
 
--- The script was run: from its first line on, the bytes of these chunks were fed one after the other, and then, or not, it was told that they end.
+-- The script was run, up to a last turn and the line buffer after it.
 pub record Ending (line : List ℕ) (e : Ended) (line′ : List ℕ) : Type 0 where
-  pub chunks : List (List ℕ)
-  pub reader : readerOf (e .session) line′ ≡ cond (finishes e) (finished (fedAll (atFirst line) chunks .reader) .reader) (fedAll (atFirst line) chunks .reader)
+  pub turn : Turn
+  pub buffer : List ℕ
+  -- where the names were written, turns were made from the first line on until none was to be made, and how the last one went is handed on
+  pub ran : e .started ≡ true → Running (atFirst line) turn buffer × ((e .failed ≡ turn .failed) × (e .wrote ≡ turn .wrote))
+  -- where they were not, nothing was fed
+  pub unread : e .started ≡ false → readerOf (turn .session) buffer ≡ atFirst line
+  -- then, or not, the script was told that its input ends
+  pub reader : readerOf (e .session) line′ ≡ cond (finishes e) (finished (readerOf (turn .session) buffer) .reader) (readerOf (turn .session) buffer)

@@ -4,9 +4,12 @@ use interpreter::Session;
 use libc::STDIN_FILENO;
 use libc::STDOUT_FILENO;
 ghost use mathlib.Core.Path.{_≡_};
-ghost use mathlib.Core.Bool.{true};
+ghost use mathlib.Core.Bool.{true, _&&_};
+ghost use lib.Dec.{eqb};
 ghost use Rattle.interpreter.specs.Session.{begun, readerOf, finished};
 ghost use Rattle.rampscript.specs.Program.{more as moreTurns, Answering, Turning, Running, Ending};
+ghost use lib.IntN.{pos};
+ghost use lib.Signed.{ltZ};
 
 // A script after a chunk, and whether its answers were written.
 struct Answered {
@@ -76,12 +79,13 @@ fn answer(first: Session, chunk: &[u8], line: &mut [u8; 2100]) -> Answered
 
 // Whether a read that gave so many bytes failed. The end of the input is 0.
 fn read_failed(got: isize, count: usize) -> bool
-    ensures { λ r. ⌜ (r ≡ true → count ≡ 0) ⌝ }
+    ensures answer { λ r. ⌜ r ≡ eqb count 0 && ltZ got (pos 0) ⌝ }
+    ensures none { λ r. ⌜ (r ≡ true → count ≡ 0) ⌝ }
 {
     if count != 0 {
         return false;
     }
-    got != 0
+    got < 0
 }
 
 // Reads a chunk, whatever there is to read, and answers it.
