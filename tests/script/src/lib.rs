@@ -10,11 +10,20 @@ use std::time::{Duration, Instant};
 
 pub mod random;
 
-/// A program that has not ended by then is killed, and its test fails.
-const LIMIT: Duration = Duration::from_secs(20);
+/// A program that has not ended by then is killed, and its test fails: after twenty seconds, or as many as the variable SCRIPT_LIMIT says.
+fn limit() -> Duration {
+    Duration::from_secs(variable("SCRIPT_LIMIT").unwrap_or(20))
+}
 
 /// Far more than any test's output: a program that prints without end is not read without end.
 const MOST_PRINTED: u64 = 100_000_000;
+
+/// A variable's number, if it is set.
+pub fn variable(name: &str) -> Option<u64> {
+    let value = std::env::var(name).ok()?;
+    let number = value.parse();
+    Some(number.unwrap_or_else(|_| panic!("{name} must be a number, and is {value:?}")))
+}
 
 /// The folder of the repository.
 pub fn root() -> PathBuf {
@@ -43,12 +52,12 @@ pub fn in_time<T: Send + 'static>(
     let worker = thread::spawn(move || {
         let _ = sender.send(work());
     });
-    receiver.recv_timeout(LIMIT).unwrap_or_else(|_| {
+    receiver.recv_timeout(limit()).unwrap_or_else(|_| {
         let _ = child.kill();
         let _ = child.wait();
         match worker.join() {
             Err(failure) => resume_unwind(failure),
-            Ok(()) => panic!("the program has not ended after {LIMIT:?}"),
+            Ok(()) => panic!("the program has not ended after {:?}", limit()),
         }
     })
 }
@@ -79,10 +88,10 @@ pub fn ends(child: &mut Child) {
         .expect("a child can be waited for")
         .is_none()
     {
-        if start.elapsed() > LIMIT {
+        if start.elapsed() > limit() {
             let _ = child.kill();
             let _ = child.wait();
-            panic!("the program has not ended after {LIMIT:?}");
+            panic!("the program has not ended after {:?}", limit());
         }
         thread::sleep(Duration::from_micros(100));
     }

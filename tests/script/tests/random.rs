@@ -1,7 +1,7 @@
 //! Random scripts, whole and damaged, against the reference. Variables: SCRIPTS is how many there are, SEED which ones; SCRIPT_SECONDS goes on for so many seconds instead.
 use reference::script::run;
 use script::random::{damage, day, script, Numbers};
-use script::{difference, from_a_file, keep, program, through_a_pipe};
+use script::{difference, from_a_file, keep, program, through_a_pipe, variable};
 use std::collections::BTreeSet;
 use std::panic::resume_unwind;
 use std::sync::atomic::{AtomicU64, Ordering};
@@ -11,13 +11,6 @@ use std::time::{Duration, Instant};
 
 /// How many scripts are tried at the same time.
 const WORKERS: usize = 2;
-
-/// A variable's number, if it is set.
-fn variable(name: &str) -> Option<u64> {
-    let value = std::env::var(name).ok()?;
-    let number = value.parse();
-    Some(number.unwrap_or_else(|_| panic!("{name} must be a number, and is {value:?}")))
-}
 
 /// The kinds of answers in an output: `ok`, `pass`, `fail` and `stop`, and each refusal.
 fn kinds(printed: &[u8], into: &mut BTreeSet<String>) {
