@@ -64,11 +64,11 @@ fn most_drawn(mode: &Mode) -> u128 {
 }
 
 impl Entry {
-    /// So many first bytes of the output, once feeding has ended. They are kept, as they stay the same; where more are asked for, all are worked out anew, and up to twice as many: so a long
-    /// output can be drawn in many small parts.
+    /// So many first bytes of the output, once feeding has ended. They are kept, as they stay the same; where more are asked for, all are worked out anew, and up to twice as many, or as many as
+    /// cost little beside a long message: so a long output can be drawn in many small parts.
     fn output(&mut self, length: usize) -> &[u8] {
         if self.output.len() < length {
-            let more = length.next_power_of_two();
+            let more = length.max(self.fed.len() / 16).next_power_of_two();
             self.output = sponge(permute, self.mode, &self.key, &self.fed, more).0;
         }
         &self.output[..length]

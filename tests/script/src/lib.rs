@@ -8,6 +8,7 @@ use std::sync::mpsc;
 use std::thread;
 use std::time::{Duration, Instant};
 
+pub mod coverage;
 pub mod random;
 
 /// A program that has not ended by then is killed, and its test fails.
@@ -155,10 +156,11 @@ pub fn assert_same(script: &[u8], printed: &[u8], expected: &[u8]) {
     }
 }
 
-/// Holds the program against the reference.
-pub fn assert_agrees(script: &[u8]) {
+/// Holds the program against the reference, and gives what both print.
+pub fn assert_agrees(script: &[u8]) -> Vec<u8> {
     let printed = through_a_pipe(&program(), script);
     assert_same(script, &printed, &reference::script::run(script));
+    printed
 }
 
 /// Holds both, the reference and the program, against what a script must give: a slip that they share would be found.

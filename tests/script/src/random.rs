@@ -1,39 +1,6 @@
 //! Random scripts: days of calls that reach every answer, and damage to them.
-use reference::script::hex;
-
-/// A generator of test numbers (splitmix64): the same numbers for the same seed.
-pub struct Numbers(pub u64);
-
-impl Numbers {
-    fn number(&mut self) -> u64 {
-        self.0 = self.0.wrapping_add(0x9e3779b97f4a7c15);
-        let mut z = self.0;
-        z = (z ^ z >> 30).wrapping_mul(0xbf58476d1ce4e5b9);
-        z = (z ^ z >> 27).wrapping_mul(0x94d049bb133111eb);
-        z ^ z >> 31
-    }
-
-    pub fn below(&mut self, limit: usize) -> usize {
-        (self.number() % limit as u64) as usize
-    }
-
-    /// From a to b, both included.
-    pub fn between(&mut self, a: usize, b: usize) -> usize {
-        a + self.below(b - a + 1)
-    }
-
-    pub fn one_in(&mut self, times: usize) -> bool {
-        self.below(times) == 0
-    }
-
-    pub fn pick<T: Copy>(&mut self, of: &[T]) -> T {
-        of[self.below(of.len())]
-    }
-
-    pub fn bytes(&mut self, length: usize) -> Vec<u8> {
-        (0..length).map(|_| self.number() as u8).collect()
-    }
-}
+use reference::numbers::Numbers;
+use reference::script::field;
 
 /// What the writer of a script remembers of a ticket. It only guides what is written next; what is right, the reference says.
 struct Ticket {
@@ -45,8 +12,11 @@ struct Ticket {
     drawn: usize,
 }
 
+/// The most that may be fed to a ticket.
+pub const MOST_FED: usize = 16_777_216;
+
 /// The most that may be drawn, by mode.
-const MOST_DRAWN: [usize; 5] = [0, 1_048_576, 16, 32, 1_048_576];
+pub const MOST_DRAWN: [usize; 5] = [0, 1_048_576, 16, 32, 1_048_576];
 
 /// A script under way, and how its day goes.
 struct Day<'a> {
@@ -68,29 +38,27 @@ pub fn day(numbers: &mut Numbers, lines: usize) -> Vec<u8> {
     day.end()
 }
 
-/// A script that begins with a ticket close to its limit, of 1,048,576 bytes drawn.
-fn day_after_draws(numbers: &mut Numbers, lines: usize) -> Vec<u8> {
+/// A script that begins with a ticket of a mode close to a limit: of the bytes fed or, where that is in the thousands, of the bytes drawn.
+fn day_at_a_limit(numbers: &mut Numbers, mode: usize, drawing: bool, lines: usize) -> Vec<u8> {
     let mut day = Day::begin(numbers);
-    day.line("open", 4, "-");
-    for _ in 0..1_022 {
-        day.line("draw", 1, "0400");
+    day.feed = 1_024;
+    let key = day.numbers.bytes(if mode < 3 { 16 } else { 0 });
+    day.line_of_bytes("open", mode, &key);
+    day.opened(mode, key);
+    let limit = if drawing { MOST_DRAWN[mode] } else { MOST_FED };
+    // Few other tickets, and few calls that would end it.
+    day.weights = if drawing {
+        [1, 10, 60, 10, 1, 5]
+    } else {
+        [1, 60, 1, 1, 1, 5]
+    };
+    for count in day.numbers.parts(limit, 1_024) {
+        if drawing {
+            day.draw_from(1, count);
+        } else {
+            day.feed_to(1, count);
+        }
     }
-    let mut ticket = Ticket::new(4, [0; 16]);
-    ticket.feeding = false;
-    ticket.drawn = 1_022 * 1_024;
-    day.tickets.push(ticket);
-    day.calls(lines);
-    day.end()
-}
-
-/// A script that begins with a ticket close to its limit, of 16,777,216 bytes fed.
-fn day_after_feeds(numbers: &mut Numbers, lines: usize) -> Vec<u8> {
-    let mut day = Day::begin(numbers);
-    day.line_of_bytes("open", 1, &[0; 16]);
-    for _ in 0..16_383 {
-        day.line_of_bytes("feed", 1, &[0xa5; 1_024]);
-    }
-    day.tickets.push(Ticket::new(1, [0; 16]));
     day.calls(lines);
     day.end()
 }
@@ -140,12 +108,7 @@ impl Day<'_> {
     }
 
     fn line_of_bytes(&mut self, name: &str, number: usize, bytes: &[u8]) {
-        let field = if bytes.is_empty() {
-            "-".to_string()
-        } else {
-            hex(bytes)
-        };
-        self.line(name, number, &field);
+        self.line(name, number, &field(bytes));
     }
 
     fn is_wrong(&mut self) -> bool {
@@ -187,10 +150,14 @@ impl Day<'_> {
             _ => return,
         };
         if key.len() == length && open < 16 {
-            key.resize(16, 0);
-            self.tickets
-                .push(Ticket::new(mode, key.try_into().unwrap()));
+            self.opened(mode, key);
         }
+    }
+
+    fn opened(&mut self, mode: usize, mut key: Vec<u8>) {
+        key.resize(16, 0);
+        let key = key.try_into().expect("sixteen bytes");
+        self.tickets.push(Ticket::new(mode, key));
     }
 
     /// The number of a ticket, as a rule of an open one; of those, one that is wanted, if there is any.
@@ -224,12 +191,20 @@ impl Day<'_> {
 
     fn feed(&mut self) {
         let number = self.ticket(|t| t.feeding);
+        let left = self.known(number).map_or(0, |t| MOST_FED - t.fed.len());
         let any = self.numbers.below(self.feed + 1);
-        let length = self.numbers.pick(&[0, 1, 7, 8, 9, 31, 32, 33, any, any]);
-        let bytes = self.numbers.bytes(length.min(self.feed));
+        let length = match left {
+            0..=1_024 => self.numbers.pick(&[0, 1, any, left, left + 1]),
+            _ => self.numbers.pick(&[0, 1, 7, 8, 9, 31, 32, 33, any, any]),
+        };
+        self.feed_to(number, length.min(self.feed));
+    }
+
+    fn feed_to(&mut self, number: usize, length: usize) {
+        let bytes = self.numbers.bytes(length);
         self.line_of_bytes("feed", number, &bytes);
         if let Some(ticket) = self.known(number) {
-            if ticket.feeding {
+            if ticket.feeding && ticket.fed.len() + length <= MOST_FED {
                 ticket.fed.extend(bytes);
             }
         }
@@ -251,7 +226,10 @@ impl Day<'_> {
             15 => left + 1,
             _ => self.numbers.below(left.min(64) + 1),
         };
-        let count = count.min(1_024);
+        self.draw_from(number, count.min(1_024));
+    }
+
+    fn draw_from(&mut self, number: usize, count: usize) {
         self.line("draw", number, &format!("{count:04x}"));
         if let Some(ticket) = self.known(number) {
             if ticket.drawn + count <= MOST_DRAWN[ticket.mode] {
@@ -355,22 +333,28 @@ fn damage_lines(numbers: &mut Numbers, script: &mut Vec<u8>) {
     *script = lines.concat();
 }
 
-/// A script of random length, whole or damaged.
-pub fn script(numbers: &mut Numbers) -> Vec<u8> {
+/// The script of a seed, of random length, whole or damaged. Of a thousand seeds in a row a few begin at a limit, which takes long scripts.
+pub fn script(seed: u64) -> Vec<u8> {
+    let mut numbers = Numbers(seed);
+    match seed % 1_000 {
+        500 => {
+            let mode = (seed / 1_000) % 4 + 1;
+            return day_at_a_limit(&mut numbers, mode as usize, false, 300);
+        }
+        501 | 502 => return day_at_a_limit(&mut numbers, 1, true, 300),
+        503 | 504 => return day_at_a_limit(&mut numbers, 4, true, 300),
+        _ => (),
+    }
     let lines = match numbers.below(20) {
         0..=7 => numbers.between(0, 10),
         8..=14 => numbers.between(10, 60),
         15..=18 => numbers.between(60, 400),
         _ => numbers.between(400, 3_000),
     };
-    let mut script = match numbers.below(5_000) {
-        0 => day_after_feeds(numbers, lines.min(60)),
-        1..=5 => day_after_draws(numbers, lines),
-        _ => day(numbers, lines),
-    };
+    let mut script = day(&mut numbers, lines);
     if numbers.one_in(2) {
         for _ in 0..numbers.between(1, 3) {
-            damage(numbers, &mut script);
+            damage(&mut numbers, &mut script);
         }
     }
     script
