@@ -8,11 +8,6 @@ fn expected(mode: &Mode, key: &[u8; 16], message: &[u8], length: usize) -> (Vec<
     reference::sponge(permute, mode, key, message, length)
 }
 
-/// Document 01's formula, once feeding has ended.
-fn formula(mode: &Mode, fed: usize, drawn: usize) -> u64 {
-    (fed / mode.feed_rate + 1 + drawn.div_ceil(mode.draw_rate).max(1)) as u64
-}
-
 /// Holds one call against the reference, and its count against the formula.
 fn assert_agrees(
     mode: &Mode,
@@ -32,7 +27,7 @@ fn assert_agrees(
     let answer = sponge(mode.number, key, message, cut, &mut out, first);
     assert_eq!(out, output, "{given}");
     assert_eq!(answer, runs, "{given}");
-    assert_eq!(answer, formula(mode, message.len(), length), "{given}");
+    assert_eq!(answer, mode.runs(message.len(), Some(length)), "{given}");
 }
 
 #[test]

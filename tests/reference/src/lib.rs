@@ -60,12 +60,13 @@ fn substitute(state: &[u64; 5]) -> [u64; 5] {
     })
 }
 
-/// A mode of document 01, by its number: the start word, both rates in bytes, and whether it takes a key and flips a bit before the last block's run.
+/// A mode of document 01, by its number: the start word, both rates and the most drawn in bytes, and whether it takes a key and flips a bit before the last block's run.
 pub struct Mode {
     pub number: u32,
     pub start: u64,
     pub feed_rate: usize,
     pub draw_rate: usize,
+    pub most_drawn: usize,
     pub keyed: bool,
 }
 
@@ -75,6 +76,7 @@ pub const PRF: Mode = Mode {
     start: 0x80808c0000000000,
     feed_rate: 32,
     draw_rate: 16,
+    most_drawn: 1_048_576,
     keyed: true,
 };
 
@@ -82,6 +84,7 @@ pub const PRF: Mode = Mode {
 pub const MAC: Mode = Mode {
     number: 2,
     start: 0x80808c0000000080,
+    most_drawn: 16,
     ..PRF
 };
 
@@ -91,6 +94,7 @@ pub const HASH: Mode = Mode {
     start: 0x00400c0000000100,
     feed_rate: 8,
     draw_rate: 8,
+    most_drawn: 32,
     keyed: false,
 };
 
@@ -98,10 +102,28 @@ pub const HASH: Mode = Mode {
 pub const XOF: Mode = Mode {
     number: 4,
     start: 0x00400c0000000000,
+    most_drawn: 1_048_576,
     ..HASH
 };
 
 pub const MODES: [&Mode; 4] = [&PRF, &MAC, &HASH, &XOF];
+
+impl Mode {
+    /// What an open names: the key, or nothing where the mode takes none.
+    pub fn given<'a>(&self, key: &'a [u8]) -> &'a [u8] {
+        if self.keyed {
+            key
+        } else {
+            &[]
+        }
+    }
+
+    /// Document 01's formula for the run count: with so many bytes fed and, once feeding has ended, so many drawn.
+    pub fn runs(&self, fed: usize, drawn: Option<usize>) -> u64 {
+        let after = drawn.map_or(0, |d| d.div_ceil(self.draw_rate).max(1));
+        (fed / self.feed_rate + 1 + after) as u64
+    }
+}
 
 /// The key of the vectors: 00 01 .. 0f.
 pub const KEY: [u8; 16] = [0, 1, 2, 3, 4, 5, 6, 7, 8, 9, 10, 11, 12, 13, 14, 15];

@@ -1,6 +1,6 @@
 //! What a script reaches: each call with each of its answers, and what lies at the limits.
-use crate::random::{MOST_DRAWN, MOST_FED};
-use reference::machine::{Answer, Call};
+use reference::machine::{Answer, Call, MOST_FED};
+use reference::MODES;
 use std::collections::BTreeSet;
 
 /// All that the random scripts are to reach. Out of a script's reach are the refusals 3 and 14.
@@ -108,7 +108,7 @@ impl Watch {
         if self.at_a_limit(
             &format!("mode {mode} draw"),
             count,
-            MOST_DRAWN[mode] - drawn,
+            MODES[mode - 1].most_drawn - drawn,
         ) {
             self.ticket(number).drawn += count;
             if checked && count > 0 {

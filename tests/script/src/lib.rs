@@ -107,7 +107,7 @@ pub fn through_a_pipe(program: &Path, script: &[u8]) -> Vec<u8> {
 
 /// What a program prints for a script in a file, of which every read gives as much as is asked for.
 pub fn from_a_file(program: &Path, script: &[u8]) -> Vec<u8> {
-    let path = keep(script, "input");
+    let path = keep(script, &format!("input-{}", std::process::id()));
     let file = File::open(&path).expect("the script can be opened");
     let all = printed(start(program, file.into()), |_| ());
     fs::remove_file(path).expect("the script can be removed");

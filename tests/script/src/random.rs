@@ -1,22 +1,18 @@
 //! Random scripts: days of calls that reach every answer, and damage to them.
+use reference::machine::MOST_FED;
 use reference::numbers::Numbers;
 use reference::script::field;
+use reference::{Mode, MODES, PRF, XOF};
 
 /// What the writer of a script remembers of a ticket. It only guides what is written next; what is right, the reference says.
 struct Ticket {
-    mode: usize,
+    mode: &'static Mode,
     key: [u8; 16],
     fed: Vec<u8>,
     feeding: bool,
     open: bool,
     drawn: usize,
 }
-
-/// The most that may be fed to a ticket.
-pub const MOST_FED: usize = 16_777_216;
-
-/// The most that may be drawn, by mode.
-pub const MOST_DRAWN: [usize; 5] = [0, 1_048_576, 16, 32, 1_048_576];
 
 /// A script under way, and how its day goes.
 struct Day<'a> {
@@ -38,14 +34,14 @@ pub fn day(numbers: &mut Numbers, lines: usize) -> Vec<u8> {
     day.end()
 }
 
-/// A script that begins with a ticket of a mode close to a limit: of the bytes fed or, where that is in the thousands, of the bytes drawn.
-fn day_at_a_limit(numbers: &mut Numbers, mode: usize, drawing: bool, lines: usize) -> Vec<u8> {
+/// A script that begins with a ticket of a mode close to a limit: of the bytes drawn, or of the bytes fed.
+fn day_at_a_limit(numbers: &mut Numbers, mode: &'static Mode, drawing: bool) -> Vec<u8> {
     let mut day = Day::begin(numbers);
     day.feed = 1_024;
-    let key = day.numbers.bytes(if mode < 3 { 16 } else { 0 });
-    day.line_of_bytes("open", mode, &key);
-    day.opened(mode, key);
-    let limit = if drawing { MOST_DRAWN[mode] } else { MOST_FED };
+    let key: [u8; 16] = day.numbers.bytes(16).try_into().expect("sixteen bytes");
+    day.line_of_bytes("open", mode.number as usize, mode.given(&key));
+    day.tickets.push(Ticket::new(mode, key));
+    let limit = if drawing { mode.most_drawn } else { MOST_FED };
     // Few other tickets, and few calls that would end it.
     day.weights = if drawing {
         [1, 10, 60, 10, 1, 5]
@@ -59,12 +55,12 @@ fn day_at_a_limit(numbers: &mut Numbers, mode: usize, drawing: bool, lines: usiz
             day.feed_to(1, count);
         }
     }
-    day.calls(lines);
+    day.calls(300);
     day.end()
 }
 
 impl Ticket {
-    fn new(mode: usize, key: [u8; 16]) -> Ticket {
+    fn new(mode: &'static Mode, key: [u8; 16]) -> Ticket {
         Ticket {
             mode,
             key,
@@ -133,31 +129,23 @@ impl Day<'_> {
     }
 
     fn open(&mut self) {
-        let mut mode = self.numbers.between(1, 4);
-        let mut key = self.numbers.bytes(if mode < 3 { 16 } else { 0 });
+        let mode = self.numbers.pick(&MODES);
+        let right = mode.given(&[0; 16]).len();
+        let (mut number, mut key) = (mode.number as usize, self.numbers.bytes(right));
         if self.is_wrong() {
             let length = self.numbers.pick(&[0, 1, 8, 15, 16, 17, 32, 1_024]);
             key = self.numbers.bytes(length);
         }
         if self.is_wrong() {
-            mode = self.numbers.pick(&[0, 5, 257, 65_537, 4_294_967_295]);
+            number = self.numbers.pick(&[0, 5, 257, 65_537, 4_294_967_295]);
         }
-        self.line_of_bytes("open", mode, &key);
+        self.line_of_bytes("open", number, &key);
         let open = self.tickets.iter().filter(|t| t.open).count();
-        let length = match mode {
-            1 | 2 => 16,
-            3 | 4 => 0,
-            _ => return,
-        };
-        if key.len() == length && open < 16 {
-            self.opened(mode, key);
+        if number == mode.number as usize && key.len() == right && open < 16 {
+            key.resize(16, 0);
+            let key = key.try_into().expect("sixteen bytes");
+            self.tickets.push(Ticket::new(mode, key));
         }
-    }
-
-    fn opened(&mut self, mode: usize, mut key: Vec<u8>) {
-        key.resize(16, 0);
-        let key = key.try_into().expect("sixteen bytes");
-        self.tickets.push(Ticket::new(mode, key));
     }
 
     /// The number of a ticket, as a rule of an open one; of those, one that is wanted, if there is any.
@@ -215,7 +203,7 @@ impl Day<'_> {
         let number = self.ticket(|t| !late || !t.feeding);
         let left = self
             .known(number)
-            .map_or(0, |t| MOST_DRAWN[t.mode] - t.drawn);
+            .map_or(0, |t| t.mode.most_drawn - t.drawn);
         let any = self.numbers.below(1_025);
         let few = self.numbers.below(40);
         let count = match self.numbers.below(20) {
@@ -232,7 +220,7 @@ impl Day<'_> {
     fn draw_from(&mut self, number: usize, count: usize) {
         self.line("draw", number, &format!("{count:04x}"));
         if let Some(ticket) = self.known(number) {
-            if ticket.drawn + count <= MOST_DRAWN[ticket.mode] {
+            if ticket.drawn + count <= ticket.mode.most_drawn {
                 ticket.feeding = false;
                 ticket.drawn += count;
             }
@@ -240,9 +228,9 @@ impl Day<'_> {
     }
 
     fn check(&mut self) {
-        let number = self.ticket(|t| t.mode == 2 && t.fed.len() < 20_000);
+        let number = self.ticket(|t| t.mode.number == 2 && t.fed.len() < 20_000);
         let mut tag = match self.known(number) {
-            Some(ticket) if ticket.mode == 2 => reference::mac(&ticket.key, &ticket.fed),
+            Some(ticket) if ticket.mode.number == 2 => reference::mac(&ticket.key, &ticket.fed),
             _ => self.numbers.bytes(16),
         };
         tag.truncate(self.numbers.between(8, 16));
@@ -255,7 +243,7 @@ impl Day<'_> {
         }
         self.line_of_bytes("check", number, &tag);
         if let Some(ticket) = self.known(number) {
-            if ticket.mode == 2 && (8..=16).contains(&tag.len()) {
+            if ticket.mode.number == 2 && (8..=16).contains(&tag.len()) {
                 ticket.feeding = false;
             }
         }
@@ -337,12 +325,9 @@ fn damage_lines(numbers: &mut Numbers, script: &mut Vec<u8>) {
 pub fn script(seed: u64) -> Vec<u8> {
     let mut numbers = Numbers(seed);
     match seed % 1_000 {
-        500 => {
-            let mode = (seed / 1_000) % 4 + 1;
-            return day_at_a_limit(&mut numbers, mode as usize, false, 300);
-        }
-        501 | 502 => return day_at_a_limit(&mut numbers, 1, true, 300),
-        503 | 504 => return day_at_a_limit(&mut numbers, 4, true, 300),
+        500 => return day_at_a_limit(&mut numbers, MODES[(seed / 1_000 % 4) as usize], false),
+        501 | 502 => return day_at_a_limit(&mut numbers, &PRF, true),
+        503 | 504 => return day_at_a_limit(&mut numbers, &XOF, true),
         _ => (),
     }
     let lines = match numbers.below(20) {

@@ -1,8 +1,8 @@
 //! Long inputs: a ticket of each mode fed and drawn to its limits in uneven scraps, and very many tickets.
+use reference::machine::MOST_FED;
 use reference::numbers::Numbers;
 use reference::script::field;
-use reference::{permute, sponge, Mode, HASH, MAC, PRF, XOF};
-use script::random::MOST_FED;
+use reference::{permute, sponge, Mode, HASH, MAC, MODES, PRF, XOF};
 use script::{assert_agrees, assert_same, program, through_a_pipe, Talk};
 
 /// Counts that go up to a limit in uneven parts of at most `longest`, and whether each is accepted. At the end stand one more than is left and far more, all but one of it, two, the last one, one
@@ -24,23 +24,23 @@ fn feed_all(talk: &mut Talk, mode: &Mode, message: &[u8], numbers: &mut Numbers)
         let line = format!("feed 1 {}", field(&message[from..from + count]));
         if accepted {
             fed += count;
-            talk.line(line, format!("ok {} -", 1 + fed / mode.feed_rate));
+            talk.line(line, format!("ok {} -", mode.runs(fed, None)));
         } else {
             talk.line(line, "no 16 -");
         }
     }
 }
 
-/// Draws from ticket 1, which made so many runs by the end of feeding, all of an output that is as long as the limit.
-fn draw_all(talk: &mut Talk, mode: &Mode, output: &[u8], runs: usize, numbers: &mut Numbers) {
+/// Draws from ticket 1, to which all was fed, all of an output that is as long as the limit.
+fn draw_all(talk: &mut Talk, mode: &Mode, output: &[u8], numbers: &mut Numbers) {
     let mut drawn = 0;
     for (count, accepted) in up_to(output.len(), 1_000.min(output.len() / 4), numbers) {
         let line = format!("draw 1 {count:04x}");
         if accepted {
             let bytes = field(&output[drawn..drawn + count]);
             drawn += count;
-            let more = drawn.div_ceil(mode.draw_rate).saturating_sub(1);
-            talk.line(line, format!("ok {} {bytes}", runs + more));
+            let runs = mode.runs(MOST_FED, Some(drawn));
+            talk.line(line, format!("ok {runs} {bytes}"));
         } else {
             talk.line(line, "no 17 -");
         }
@@ -48,7 +48,7 @@ fn draw_all(talk: &mut Talk, mode: &Mode, output: &[u8], runs: usize, numbers: &
 }
 
 /// Checks on ticket 1: of a MAC a right tag and a damaged one, each in its shortest form and whole.
-fn check(talk: &mut Talk, mode: &Mode, tag: &[u8], runs: usize) {
+fn check(talk: &mut Talk, mode: &Mode, tag: &[u8], runs: u64) {
     for length in [8, 16] {
         let mut given = tag[..length].to_vec();
         for verdict in ["pass", "fail"] {
@@ -64,20 +64,19 @@ fn check(talk: &mut Talk, mode: &Mode, tag: &[u8], runs: usize) {
 }
 
 /// A ticket that is fed 16,777,216 bytes, checked, drawn from as far as its mode goes, and checked again.
-fn to_the_limits(mode: &Mode, most_drawn: usize) {
+fn to_the_limits(mode: &Mode) {
     let mut numbers = Numbers(mode.number.into());
     let key: [u8; 16] = numbers.bytes(16).try_into().unwrap();
-    let given = if mode.keyed { field(&key) } else { field(&[]) };
     let message = numbers.bytes(MOST_FED);
-    let (output, _) = sponge(permute, mode, &key, &message, most_drawn);
-    let fed = 1 + MOST_FED / mode.feed_rate + 1;
-    let all = fed + most_drawn.div_ceil(mode.draw_rate) - 1;
+    let (output, _) = sponge(permute, mode, &key, &message, mode.most_drawn);
+    let [fed, all] = [0, mode.most_drawn].map(|drawn| mode.runs(MOST_FED, Some(drawn)));
 
     let mut talk = Talk::default();
-    talk.line(format!("open {} {given}", mode.number), "ok 1 -");
+    let open = format!("open {} {}", mode.number, field(mode.given(&key)));
+    talk.line(open, "ok 1 -");
     feed_all(&mut talk, mode, &message, &mut numbers);
     check(&mut talk, mode, &output[..16], fed);
-    draw_all(&mut talk, mode, &output, fed, &mut numbers);
+    draw_all(&mut talk, mode, &output, &mut numbers);
     check(&mut talk, mode, &output[..16], all);
     talk.line("feed 1 -", "no 15 -")
         .line("sum 0 -", format!("ok {all} -"))
@@ -89,22 +88,22 @@ fn to_the_limits(mode: &Mode, most_drawn: usize) {
 
 #[test]
 fn the_prf_to_its_limits() {
-    to_the_limits(&PRF, 1_048_576);
+    to_the_limits(&PRF);
 }
 
 #[test]
 fn the_mac_to_its_limits() {
-    to_the_limits(&MAC, 16);
+    to_the_limits(&MAC);
 }
 
 #[test]
 fn the_hash_to_its_limits() {
-    to_the_limits(&HASH, 32);
+    to_the_limits(&HASH);
 }
 
 #[test]
 fn the_xof_to_its_limits() {
-    to_the_limits(&XOF, 1_048_576);
+    to_the_limits(&XOF);
 }
 
 /// Ten thousand tickets, sixteen of them open at a time: each is fed and drawn from in turns with the others, a seventeenth is refused, and the place of any of them serves the next.
@@ -115,9 +114,9 @@ fn ten_thousand_tickets() {
     let mut script = b"call number bytes\n".to_vec();
     let mut open = Vec::new();
     for ticket in 1..=TICKETS {
-        let mode = numbers.between(1, 4);
-        let key = numbers.bytes(if mode < 3 { 16 } else { 0 });
-        let line = format!("open {mode} {}\n", field(&key));
+        let mode = numbers.pick(&MODES);
+        let key = numbers.bytes(16);
+        let line = format!("open {} {}\n", mode.number, field(mode.given(&key)));
         if open.len() == 16 {
             let closed = open.swap_remove(numbers.below(16));
             script.extend(format!("{line}close {closed} -\nfeed {closed} -\n").bytes());

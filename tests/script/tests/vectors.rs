@@ -10,31 +10,26 @@ fn add(talk: &mut Talk, ticket: usize, vector: &Vector) {
         length,
         output,
     } = vector;
-    let given = if mode.keyed { field(&KEY) } else { field(&[]) };
-    talk.line(
-        format!("open {} {given}", mode.number),
-        format!("ok {ticket} -"),
-    );
+    let open = format!("open {} {}", mode.number, field(mode.given(&KEY)));
+    talk.line(open, format!("ok {ticket} -"));
     let message = counting(*length);
     let (mut fed, mut scrap) = (0, 0);
     while fed < *length {
         let next = (fed + scrap).min(*length);
         let line = format!("feed {ticket} {}", field(&message[fed..next]));
-        talk.line(line, format!("ok {} -", 1 + next / mode.feed_rate));
+        talk.line(line, format!("ok {} -", mode.runs(next, None)));
         (fed, scrap) = (next, scrap + 1);
     }
     let first = ticket % output.len();
     for (from, to) in [(0, first), (first, output.len())] {
-        let runs = length / mode.feed_rate + 1 + to.div_ceil(mode.draw_rate).max(1);
+        let runs = mode.runs(*length, Some(to));
         let answer = format!("ok {runs} {}", field(&output[from..to]));
         talk.line(format!("draw {ticket} {:04x}", to - from), answer);
     }
-    let runs = length / mode.feed_rate + 1 + output.len().div_ceil(mode.draw_rate);
+    let runs = mode.runs(*length, Some(output.len()));
     if mode.number == 2 {
-        talk.line(
-            format!("check {ticket} {}", field(output)),
-            format!("pass {runs} -"),
-        );
+        let check = format!("check {ticket} {}", field(output));
+        talk.line(check, format!("pass {runs} -"));
     }
     talk.line(format!("close {ticket} -"), format!("ok {runs} -"));
 }
