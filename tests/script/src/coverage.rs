@@ -3,17 +3,48 @@ use reference::machine::{Answer, Call, MOST_FED};
 use reference::MODES;
 use std::collections::BTreeSet;
 
-/// All that the random scripts are to reach. Out of a script's reach are the refusals 3 and 14.
-pub const ALL: &str = "\
-check after a draw, check no 11, check no 12, check no 18, check no 4, check ok, check pass, \
-close no 11, close no 12, close ok, draw after a check, draw no 11, draw no 12, draw no 17, draw ok, \
-feed no 11, feed no 12, feed no 15, feed no 16, feed of nothing at the limit, feed ok, \
-feed past the limit where none is left, feed past the limit where some is left, feed to the limit, \
-mode 1 draw of nothing at the limit, mode 1 draw past the limit where none is left, mode 1 draw past the limit where some is left, mode 1 draw to the limit, \
-mode 2 draw of nothing at the limit, mode 2 draw past the limit where none is left, mode 2 draw past the limit where some is left, mode 2 draw to the limit, \
-mode 3 draw of nothing at the limit, mode 3 draw past the limit where none is left, mode 3 draw past the limit where some is left, mode 3 draw to the limit, \
-mode 4 draw of nothing at the limit, mode 4 draw past the limit where none is left, mode 4 draw past the limit where some is left, mode 4 draw to the limit, \
-open in a place that served before, open no 1, open no 13, open no 2, open ok, open the sixteenth, sum ok";
+/// Every answer to each call that a script can get. Out of its reach are the refusals 3 and 14.
+const ANSWERS: [(&str, &[&str]); 6] = [
+    ("open", &["ok", "no 1", "no 2", "no 13"]),
+    ("feed", &["ok", "no 11", "no 12", "no 15", "no 16"]),
+    ("draw", &["ok", "no 11", "no 12", "no 17"]),
+    (
+        "check",
+        &["pass", "fail", "no 11", "no 12", "no 18", "no 4"],
+    ),
+    ("close", &["ok", "no 11", "no 12"]),
+    ("sum", &["ok"]),
+];
+
+/// The calls that have a limit, and what may come there.
+const LIMITED: [&str; 5] = ["feed", "draw 1", "draw 2", "draw 3", "draw 4"];
+const AT_A_LIMIT: [&str; 4] = [
+    "to the limit",
+    "of nothing at the limit",
+    "past the limit where some is left",
+    "past the limit where none is left",
+];
+
+const OTHERS: [&str; 5] = [
+    "open the sixteenth",
+    "open in a place that served before",
+    "draw after a check",
+    "check after a draw",
+    "stop",
+];
+
+/// What has not been reached of all that there is.
+pub fn missing(reached: &BTreeSet<String>) -> Vec<String> {
+    let mut all: Vec<String> = OTHERS.map(String::from).into();
+    for (call, answers) in ANSWERS
+        .iter()
+        .chain(&LIMITED.map(|call| (call, &AT_A_LIMIT[..])))
+    {
+        all.extend(answers.iter().map(|answer| format!("{call} {answer}")));
+    }
+    all.retain(|what| !reached.contains(what));
+    all
+}
 
 struct Ticket {
     mode: usize,
@@ -40,11 +71,13 @@ impl Watch {
             Call::Close { .. } => "close",
             Call::Sum => "sum",
         };
-        self.reached.insert(match answer.refusal {
-            0 if answer.passed => format!("{name} pass"),
-            0 => format!("{name} ok"),
-            refusal => format!("{name} no {refusal}"),
-        });
+        let answered = match (call, answer.refusal) {
+            (Call::Check { .. }, 0) if answer.passed => "pass".to_string(),
+            (Call::Check { .. }, 0) => "fail".to_string(),
+            (_, 0) => "ok".to_string(),
+            (_, refusal) => format!("no {refusal}"),
+        };
+        self.reached.insert(format!("{name} {answered}"));
         match (call, answer.refusal) {
             (Call::Open { mode, .. }, 0) => self.opened(*mode as usize),
             (Call::Feed { ticket, bytes }, 0 | 16) => self.fed(*ticket, bytes.len()),
@@ -52,6 +85,14 @@ impl Watch {
             (Call::Check { ticket, .. }, 0) => self.checked(*ticket),
             (Call::Close { .. }, 0) => self.closed += 1,
             _ => (),
+        }
+    }
+
+    /// Where all that was printed ends.
+    pub fn end(&mut self, printed: &[u8]) {
+        let last = printed.split(|byte| *byte == b'\n').nth_back(1);
+        if last.is_some_and(|line| line.starts_with(b"stop ")) {
+            self.reach("stop");
         }
     }
 
@@ -106,7 +147,7 @@ impl Watch {
             ..
         } = self.ticket(number);
         if self.at_a_limit(
-            &format!("mode {mode} draw"),
+            &format!("draw {mode}"),
             count,
             MODES[mode - 1].most_drawn - drawn,
         ) {

@@ -78,7 +78,9 @@ fn to_the_limits(mode: &Mode) {
     check(&mut talk, mode, &output[..16], fed);
     draw_all(&mut talk, mode, &output, &mut numbers);
     check(&mut talk, mode, &output[..16], all);
+    // 15 before 16.
     talk.line("feed 1 -", "no 15 -")
+        .line("feed 1 00", "no 15 -")
         .line("sum 0 -", format!("ok {all} -"))
         .line("close 1 -", format!("ok {all} -"))
         .line("draw 1 0000", "no 12 -")
