@@ -109,7 +109,7 @@ static void short_refused(uint32_t number, size_t key_length, size_t m, size_t o
 }
 
 static void refusals_of_the_short_function(void) {
-    for (size_t n = 0; n <= 40; n++) {
+    for (size_t n = 0; n <= 300; n++) {
         if (n == 16) continue;
         short_refused(ASCON_REFUSED_KEY, n, 4, 8, 8);
         short_refused(ASCON_REFUSED_KEY, n, 17, 8, 9);
@@ -196,7 +196,7 @@ static void frame_refused(uint32_t number, size_t key_length, size_t frame_lengt
 }
 
 static void refusals_of_frames(void) {
-    for (size_t n = 0; n <= 40; n++) {
+    for (size_t n = 0; n <= 300; n++) {
         if (n == 16) continue;
         frame_refused(ASCON_REFUSED_KEY, n, 60, 44);
         frame_refused(ASCON_REFUSED_KEY, n, 60, 45);

@@ -182,24 +182,3 @@ pub fn verify_runs(key: &[u8], frame: &[u8], body: usize) -> u64 {
     // SAFETY: as above.
     unsafe { bench_verify_runs(key.as_ptr(), key.len(), frame.as_ptr(), frame.len(), body) }
 }
-
-/// A generator of test numbers (splitmix64): the same numbers in every run.
-pub struct Numbers(pub u64);
-
-impl Numbers {
-    #[allow(clippy::should_implement_trait)]
-    pub fn next(&mut self) -> u64 {
-        self.0 = self.0.wrapping_add(0x9e3779b97f4a7c15);
-        let mut z = self.0;
-        z = (z ^ z >> 30).wrapping_mul(0xbf58476d1ce4e5b9);
-        z = (z ^ z >> 27).wrapping_mul(0x94d049bb133111eb);
-        z ^ z >> 31
-    }
-}
-
-impl Numbers {
-    /// So many bytes.
-    pub fn bytes(&mut self, length: usize) -> Vec<u8> {
-        (0..length).map(|_| self.next() as u8).collect()
-    }
-}

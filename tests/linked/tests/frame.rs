@@ -1,5 +1,6 @@
 //! The linked sealing and judging against the outside vectors and the reference: tags, verdicts, run counts, refusals, and every byte of the frame.
-use linked::{seal, seal_runs, verify, verify_runs, Numbers};
+use linked::{seal, seal_runs, verify, verify_runs};
+use reference::numbers::Numbers;
 use reference::{counting, mac, vectors, KEY};
 
 const PASSES: u32 = 0;
@@ -75,17 +76,25 @@ fn the_runs_reported() {
     }
 }
 
-/// The hub would refuse to be fed so much; a frame may be of any length.
+/// Among them one that the hub would refuse to be fed: a frame may be of any length.
 #[test]
-fn a_body_longer_than_the_hub_is_fed() {
-    let body = 16_777_217;
-    let mut frame: Vec<u8> = (0..body + 16).map(|i| (i % 251) as u8).collect();
-    assert_eq!(seal_runs(&KEY, &mut frame, body), 524_290);
-    assert_eq!(verify_runs(&KEY, &frame, body), 524_290);
-    assert_eq!(frame[body..], mac(&KEY, &frame[..body]));
-    assert_eq!(verify(&KEY, &frame, body), PASSES);
-    frame[body - 1] ^= 0x80;
-    assert_eq!(verify(&KEY, &frame, body), FAILS);
+fn long_bodies() {
+    for body in [1_023, 1_024, 65_535, 65_536, 1_000_003, 16_777_217] {
+        let mut frame = Numbers(body as u64).bytes(body + 16 + 3);
+        let before = frame.clone();
+        let runs = (body / 32 + 2) as u64;
+        assert_eq!(seal_runs(&KEY, &mut frame, body), runs);
+        assert_eq!(verify_runs(&KEY, &frame, body), runs);
+        assert_eq!(frame[..body], before[..body]);
+        assert_eq!(frame[body..body + 16], mac(&KEY, &before[..body]));
+        assert_eq!(frame[body + 16..], before[body + 16..]);
+        assert_eq!(verify(&KEY, &frame, body), PASSES);
+        for damaged in [0, body / 2, body - 1, body, body + 15] {
+            frame[damaged] ^= 0x80;
+            assert_eq!(verify(&KEY, &frame, body), FAILS, "byte {damaged}");
+            frame[damaged] ^= 0x80;
+        }
+    }
 }
 
 #[test]
@@ -131,7 +140,8 @@ fn another_body_length_fails() {
 
 #[test]
 fn keys_of_other_lengths_are_refused_with_2() {
-    for length in (0..=40).filter(|n| *n != 16) {
+    // 272 and 65,552 are 16 in their lowest bytes.
+    for length in (0..=40).filter(|n| *n != 16).chain([272, 65_552]) {
         assert_refused(2, &counting(length), &counting(60), 44);
         // The first check that fails answers.
         assert_refused(2, &counting(length), &counting(60), 45);

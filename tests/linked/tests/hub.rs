@@ -39,13 +39,23 @@ fn run_counts_are_the_plain_machines() {
     }
 }
 
-/// A ticket takes 16,777,216 bytes: the count grows to that limit, and further feeds are refused and change nothing.
+/// A ticket takes 16,777,216 bytes: the count grows to that limit, and a feed that would pass it is refused and changes nothing. 7 and 1,000 do not divide it; 65,536 does.
 #[test]
 fn the_count_stops_at_the_limit() {
-    let bytes = vec![7u8; 65_536];
-    for times in [255, 256, 257, 300] {
-        let runs = 1 + times.min(256) as u64 * 2048;
-        assert_eq!(feeds_by_value(5, &bytes, times), runs);
-        assert_eq!(feeds_in_place(5, &bytes, times), runs);
+    let bytes = vec![7u8; 16_777_217];
+    for (length, full) in [
+        (7, 2_396_745),
+        (1_000, 16_777),
+        (65_536, 256),
+        (16_777_215, 1),
+        (16_777_216, 1),
+        (16_777_217, 0),
+    ] {
+        for times in [full, full + 1, full + 3] {
+            let right = expected(5, &bytes[..length], times);
+            assert_eq!(right, 1 + (length * full / 32) as u64);
+            assert_eq!(feeds_by_value(5, &bytes[..length], times), right);
+            assert_eq!(feeds_in_place(5, &bytes[..length], times), right);
+        }
     }
 }

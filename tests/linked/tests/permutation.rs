@@ -1,5 +1,6 @@
 //! The linked permutation against the printed state, the outside vectors and the reference, and its refusals.
-use linked::{permute_chain, permute_row, Numbers};
+use linked::{permute_chain, permute_row};
+use reference::numbers::Numbers;
 use reference::{assert_vectors, permute, HASH};
 
 /// Permutes a state by the linked function.
@@ -49,7 +50,7 @@ fn states_of_one_bit_and_of_all_but_one() {
 fn random_states() {
     let mut numbers = Numbers(2024);
     for _ in 0..20_000 {
-        assert_agrees(std::array::from_fn(|_| numbers.next()));
+        assert_agrees(std::array::from_fn(|_| numbers.number()));
     }
 }
 
@@ -58,7 +59,7 @@ fn rows_of_other_lengths_are_refused_and_left() {
     let mut numbers = Numbers(7);
     // 261 and 65,541 are 5 in their lowest bytes.
     for length in (0..=300).filter(|&length| length != 5).chain([65_541]) {
-        let row: Vec<u64> = (0..length).map(|_| numbers.next()).collect();
+        let row: Vec<u64> = (0..length).map(|_| numbers.number()).collect();
         let mut lent = row.clone();
         assert_eq!(permute_row(&mut lent), 7, "{length} words");
         assert_eq!(lent, row, "{length} words");
@@ -68,7 +69,7 @@ fn rows_of_other_lengths_are_refused_and_left() {
 #[test]
 fn only_the_lent_words_change() {
     let mut numbers = Numbers(11);
-    let buffer: Vec<u64> = (0..15).map(|_| numbers.next()).collect();
+    let buffer: Vec<u64> = (0..15).map(|_| numbers.number()).collect();
     for start in 0..=10 {
         let (mut lent, mut expected) = (buffer.clone(), buffer.clone());
         assert_eq!(permute_row(&mut lent[start..start + 5]), 0);

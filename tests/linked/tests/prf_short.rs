@@ -1,5 +1,6 @@
 //! The linked short function against the outside vectors and the reference: outputs, refusals in their order, and the buffer that a refusal leaves.
-use linked::{prf_short, Numbers};
+use linked::prf_short;
+use reference::numbers::Numbers;
 use reference::{counting, permute, short_vectors, KEY};
 
 /// What a buffer holds before a call.
@@ -74,7 +75,8 @@ fn an_output_is_not_cut_from_a_longer_one() {
 
 #[test]
 fn keys_of_other_lengths_are_refused_with_2() {
-    for key in (0..=40).filter(|n| *n != 16) {
+    // 272 and 65,552 are 16 in their lowest bytes.
+    for key in (0..=40).filter(|n| *n != 16).chain([272, 65_552]) {
         assert_refused(2, key, 4, 8, 8);
         // The first check that fails answers.
         assert_refused(2, key, 17, 8, 8);

@@ -1,15 +1,11 @@
 //! The linked sponge against the outside vectors and the reference: outputs, run counts, tags, and numbers that are no mode.
-use linked::{sponge, tag, Numbers};
-use reference::{counting, permute, vectors, Mode, HASH, KEY, MAC, MODES, PRF};
+use linked::{sponge, tag};
+use reference::numbers::Numbers;
+use reference::{counting, permute, published, vectors, Mode, HASH, KEY, MAC, MODES, PRF};
 
 /// What the reference gives.
 fn expected(mode: &Mode, key: &[u8; 16], message: &[u8], length: usize) -> (Vec<u8>, u64) {
     reference::sponge(permute, mode, key, message, length)
-}
-
-/// Document 01's formula, once feeding has ended.
-fn formula(mode: &Mode, fed: usize, drawn: usize) -> u64 {
-    (fed / mode.feed_rate + 1 + drawn.div_ceil(mode.draw_rate).max(1)) as u64
 }
 
 /// Holds calls with a message's parts and an output's parts cut in many ways against the reference, and the count against the formula.
@@ -21,7 +17,7 @@ fn assert_agrees(
     cuts: impl IntoIterator<Item = (usize, usize)>,
 ) {
     let (output, runs) = expected(mode, key, message, length);
-    assert_eq!(runs, formula(mode, message.len(), length));
+    assert_eq!(runs, mode.runs(message.len(), Some(length)));
     for (cut, first) in cuts {
         let given = format!(
             "mode {}, {} bytes cut at {cut}, {length} drawn, {first} of them first",
@@ -37,7 +33,7 @@ fn assert_agrees(
 
 #[test]
 fn the_vectors() {
-    for (i, vector) in vectors().iter().enumerate() {
+    for (i, vector) in published().iter().chain(&vectors()).enumerate() {
         let mut out = vec![0; vector.output.len()];
         let message = counting(vector.length);
         sponge(vector.mode.number, &KEY, &message, i % 47, &mut out, i % 19);
@@ -93,12 +89,25 @@ fn long_messages_and_long_outputs() {
     let mut numbers = Numbers(3);
     for mode in MODES {
         for _ in 0..4 {
-            let length = 20_000 + (numbers.next() % 20_000) as usize;
+            let length = 20_000 + (numbers.number() % 20_000) as usize;
             let message = numbers.bytes(length);
-            let cut = numbers.next() as usize % length;
+            let cut = numbers.number() as usize % length;
             assert_agrees(mode, &KEY, &message, 5_000, [(cut, cut % 5_000)]);
         }
     }
+}
+
+/// As much as the hub would take, and more than it would give: each mode gives output of any length here.
+#[test]
+fn messages_and_outputs_of_megabytes() {
+    let message = Numbers(4).bytes(16_777_216);
+    for mode in MODES {
+        assert_agrees(mode, &KEY, &message, 9_999_999, 1_048_577, 777_777);
+    }
+    let mut mac = reference::mac(&KEY, &message);
+    assert_eq!(tag(&KEY, &message, &mac), 1);
+    mac[15] ^= 1;
+    assert_eq!(tag(&KEY, &message, &mac), 0);
 }
 
 #[test]
@@ -181,12 +190,12 @@ fn modes_differ() {
 fn tags_of_every_length() {
     for length in [0, 1, 31, 32, 33, 100] {
         let message = counting(length);
-        let (mac, _) = expected(&MAC, &KEY, &message, 40);
+        let (mac, _) = expected(&MAC, &KEY, &message, 65_552);
         for count in 0..=16 {
             assert_eq!(tag(&KEY, &message, &mac[..count]), 1, "{count} first bytes");
         }
         // Past the sixteen bytes of the MAC nothing passes, not even what the sponge would give next.
-        for count in 17..=40 {
+        for count in (17..=40).chain([256, 272, 65_552]) {
             assert_eq!(tag(&KEY, &message, &mac[..count]), 0, "{count} bytes");
             assert_eq!(tag(&KEY, &message, &vec![0; count]), 0, "{count} zeros");
         }

@@ -54,35 +54,23 @@ pub struct Machine {
     entries: Vec<Entry>,
 }
 
-/// How much may be drawn from a ticket of a mode.
-fn most_drawn(mode: &Mode) -> u128 {
-    match mode.number {
-        2 => 16,
-        3 => 32,
-        _ => 1_048_576,
-    }
-}
+/// How much may be fed to a ticket.
+pub const MOST_FED: usize = 16_777_216;
 
 impl Entry {
-    /// So many first bytes of the output, once feeding has ended. They are kept, as they stay the same; where more are asked for, all are worked out anew, and up to twice as many: so a long
-    /// output can be drawn in many small parts.
+    /// So many first bytes of the output, once feeding has ended. They are kept, as they stay the same; where more are asked for, all are worked out anew, and up to twice as many, or as many as
+    /// cost little beside a long message: so a long output can be drawn in many small parts.
     fn output(&mut self, length: usize) -> &[u8] {
         if self.output.len() < length {
-            let more = length.next_power_of_two();
+            let more = length.max(self.fed.len() / 16).next_power_of_two();
             self.output = sponge(permute, self.mode, &self.key, &self.fed, more).0;
         }
         &self.output[..length]
     }
 
-    /// The formula for the run count.
     fn runs(&self) -> u64 {
-        let fed = self.fed.len() / self.mode.feed_rate;
-        let drawn = if self.feeding {
-            0
-        } else {
-            self.drawn.div_ceil(self.mode.draw_rate).max(1)
-        };
-        (fed + 1 + drawn) as u64
+        let drawn = (!self.feeding).then_some(self.drawn);
+        self.mode.runs(self.fed.len(), drawn)
     }
 }
 
@@ -144,7 +132,7 @@ impl Machine {
                 if !entry.feeding {
                     return Err(15);
                 }
-                if entry.fed.len() + bytes.len() > 16_777_216 {
+                if entry.fed.len() + bytes.len() > MOST_FED {
                     return Err(16);
                 }
                 entry.fed.extend_from_slice(bytes);
@@ -160,7 +148,7 @@ impl Machine {
                 if *place as u128 + *count as u128 > buffer.len() as u128 {
                     return Err(3);
                 }
-                if entry.drawn as u128 + *count as u128 > most_drawn(entry.mode) {
+                if entry.drawn as u128 + *count as u128 > entry.mode.most_drawn as u128 {
                     return Err(17);
                 }
                 let (place, count) = (*place as usize, *count as usize);

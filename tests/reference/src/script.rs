@@ -8,6 +8,11 @@ const MOST_BYTES: usize = 1_024;
 
 /// What the program prints for an input.
 pub fn run(input: &[u8]) -> Vec<u8> {
+    run_watched(input, |_, _| ())
+}
+
+/// The same, with each call and its answer shown to somebody else as well.
+pub fn run_watched(input: &[u8], mut watch: impl FnMut(&Call, &Answer)) -> Vec<u8> {
     let mut machine = Machine::default();
     let mut printed = b"answer number bytes\n".to_vec();
     // The last newline may be missing. Input with no bytes is one empty line, which is not the line of names.
@@ -24,7 +29,9 @@ pub fn run(input: &[u8]) -> Vec<u8> {
             printed.extend(format!("stop {number} -\n").bytes());
             break;
         };
-        printed.extend(write(&call, &machine.call(&call)).bytes());
+        let answer = machine.call(&call);
+        watch(&call, &answer);
+        printed.extend(write(&call, &answer).bytes());
     }
     printed
 }
@@ -119,15 +126,15 @@ fn write(call: &Call, answer: &Answer) -> String {
         Call::Sum => answer.sum,
         _ => answer.runs,
     };
-    let bytes = match answer.buffer.as_deref() {
-        None | Some([]) => "-".to_string(),
-        Some(drawn) => hex(drawn),
-    };
+    let bytes = field(answer.buffer.as_deref().unwrap_or_default());
     format!("{word} {number} {bytes}\n")
 }
 
 /// Bytes as a script has them.
-pub fn hex(bytes: &[u8]) -> String {
+pub fn field(bytes: &[u8]) -> String {
+    if bytes.is_empty() {
+        return "-".to_string();
+    }
     const DIGITS: &[u8; 16] = b"0123456789abcdef";
     let digits = bytes.iter().flat_map(|byte| [byte >> 4, byte & 15]);
     digits.map(|d| char::from(DIGITS[usize::from(d)])).collect()

@@ -8,6 +8,7 @@ use std::sync::mpsc;
 use std::thread;
 use std::time::{Duration, Instant};
 
+pub mod coverage;
 pub mod random;
 
 /// A program that has not ended by then is killed, and its test fails: after twenty seconds, or as many as the variable SCRIPT_LIMIT says.
@@ -115,7 +116,7 @@ pub fn through_a_pipe(program: &Path, script: &[u8]) -> Vec<u8> {
 
 /// What a program prints for a script in a file, of which every read gives as much as is asked for.
 pub fn from_a_file(program: &Path, script: &[u8]) -> Vec<u8> {
-    let path = keep(script, "input");
+    let path = keep(script, &format!("input-{}", std::process::id()));
     let file = File::open(&path).expect("the script can be opened");
     let all = printed(start(program, file.into()), |_| ());
     fs::remove_file(path).expect("the script can be removed");
@@ -164,10 +165,11 @@ pub fn assert_same(script: &[u8], printed: &[u8], expected: &[u8]) {
     }
 }
 
-/// Holds the program against the reference.
-pub fn assert_agrees(script: &[u8]) {
+/// Holds the program against the reference, and gives what both print.
+pub fn assert_agrees(script: &[u8]) -> Vec<u8> {
     let printed = through_a_pipe(&program(), script);
     assert_same(script, &printed, &reference::script::run(script));
+    printed
 }
 
 /// Holds both, the reference and the program, against what a script must give: a slip that they share would be found.

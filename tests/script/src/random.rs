@@ -1,52 +1,18 @@
 //! Random scripts: days of calls that reach every answer, and damage to them.
-use reference::script::hex;
-
-/// A generator of test numbers (splitmix64): the same numbers for the same seed.
-pub struct Numbers(pub u64);
-
-impl Numbers {
-    fn number(&mut self) -> u64 {
-        self.0 = self.0.wrapping_add(0x9e3779b97f4a7c15);
-        let mut z = self.0;
-        z = (z ^ z >> 30).wrapping_mul(0xbf58476d1ce4e5b9);
-        z = (z ^ z >> 27).wrapping_mul(0x94d049bb133111eb);
-        z ^ z >> 31
-    }
-
-    pub fn below(&mut self, limit: usize) -> usize {
-        (self.number() % limit as u64) as usize
-    }
-
-    /// From a to b, both included.
-    pub fn between(&mut self, a: usize, b: usize) -> usize {
-        a + self.below(b - a + 1)
-    }
-
-    pub fn one_in(&mut self, times: usize) -> bool {
-        self.below(times) == 0
-    }
-
-    pub fn pick<T: Copy>(&mut self, of: &[T]) -> T {
-        of[self.below(of.len())]
-    }
-
-    pub fn bytes(&mut self, length: usize) -> Vec<u8> {
-        (0..length).map(|_| self.number() as u8).collect()
-    }
-}
+use reference::machine::MOST_FED;
+use reference::numbers::Numbers;
+use reference::script::field;
+use reference::{Mode, MODES, PRF, XOF};
 
 /// What the writer of a script remembers of a ticket. It only guides what is written next; what is right, the reference says.
 struct Ticket {
-    mode: usize,
+    mode: &'static Mode,
     key: [u8; 16],
     fed: Vec<u8>,
     feeding: bool,
     open: bool,
     drawn: usize,
 }
-
-/// The most that may be drawn, by mode.
-const MOST_DRAWN: [usize; 5] = [0, 1_048_576, 16, 32, 1_048_576];
 
 /// A script under way, and how its day goes.
 struct Day<'a> {
@@ -68,35 +34,33 @@ pub fn day(numbers: &mut Numbers, lines: usize) -> Vec<u8> {
     day.end()
 }
 
-/// A script that begins with a ticket close to its limit, of 1,048,576 bytes drawn.
-fn day_after_draws(numbers: &mut Numbers, lines: usize) -> Vec<u8> {
+/// A script that begins with a ticket of a mode close to a limit: of the bytes drawn, or of the bytes fed.
+fn day_at_a_limit(numbers: &mut Numbers, mode: &'static Mode, drawing: bool) -> Vec<u8> {
     let mut day = Day::begin(numbers);
-    day.line("open", 4, "-");
-    for _ in 0..1_022 {
-        day.line("draw", 1, "0400");
+    day.feed = 1_024;
+    let key: [u8; 16] = day.numbers.bytes(16).try_into().expect("sixteen bytes");
+    day.line_of_bytes("open", mode.number as usize, mode.given(&key));
+    day.tickets.push(Ticket::new(mode, key));
+    let limit = if drawing { mode.most_drawn } else { MOST_FED };
+    // Few other tickets, and few calls that would end it.
+    day.weights = if drawing {
+        [1, 10, 60, 10, 1, 5]
+    } else {
+        [1, 60, 1, 1, 1, 5]
+    };
+    for count in day.numbers.parts(limit, 1_024) {
+        if drawing {
+            day.draw_from(1, count);
+        } else {
+            day.feed_to(1, count);
+        }
     }
-    let mut ticket = Ticket::new(4, [0; 16]);
-    ticket.feeding = false;
-    ticket.drawn = 1_022 * 1_024;
-    day.tickets.push(ticket);
-    day.calls(lines);
-    day.end()
-}
-
-/// A script that begins with a ticket close to its limit, of 16,777,216 bytes fed.
-fn day_after_feeds(numbers: &mut Numbers, lines: usize) -> Vec<u8> {
-    let mut day = Day::begin(numbers);
-    day.line_of_bytes("open", 1, &[0; 16]);
-    for _ in 0..16_383 {
-        day.line_of_bytes("feed", 1, &[0xa5; 1_024]);
-    }
-    day.tickets.push(Ticket::new(1, [0; 16]));
-    day.calls(lines);
+    day.calls(300);
     day.end()
 }
 
 impl Ticket {
-    fn new(mode: usize, key: [u8; 16]) -> Ticket {
+    fn new(mode: &'static Mode, key: [u8; 16]) -> Ticket {
         Ticket {
             mode,
             key,
@@ -140,12 +104,7 @@ impl Day<'_> {
     }
 
     fn line_of_bytes(&mut self, name: &str, number: usize, bytes: &[u8]) {
-        let field = if bytes.is_empty() {
-            "-".to_string()
-        } else {
-            hex(bytes)
-        };
-        self.line(name, number, &field);
+        self.line(name, number, &field(bytes));
     }
 
     fn is_wrong(&mut self) -> bool {
@@ -170,26 +129,22 @@ impl Day<'_> {
     }
 
     fn open(&mut self) {
-        let mut mode = self.numbers.between(1, 4);
-        let mut key = self.numbers.bytes(if mode < 3 { 16 } else { 0 });
+        let mode = self.numbers.pick(&MODES);
+        let right = mode.given(&[0; 16]).len();
+        let (mut number, mut key) = (mode.number as usize, self.numbers.bytes(right));
         if self.is_wrong() {
             let length = self.numbers.pick(&[0, 1, 8, 15, 16, 17, 32, 1_024]);
             key = self.numbers.bytes(length);
         }
         if self.is_wrong() {
-            mode = self.numbers.pick(&[0, 5, 257, 65_537, 4_294_967_295]);
+            number = self.numbers.pick(&[0, 5, 257, 65_537, 4_294_967_295]);
         }
-        self.line_of_bytes("open", mode, &key);
+        self.line_of_bytes("open", number, &key);
         let open = self.tickets.iter().filter(|t| t.open).count();
-        let length = match mode {
-            1 | 2 => 16,
-            3 | 4 => 0,
-            _ => return,
-        };
-        if key.len() == length && open < 16 {
+        if number == mode.number as usize && key.len() == right && open < 16 {
             key.resize(16, 0);
-            self.tickets
-                .push(Ticket::new(mode, key.try_into().unwrap()));
+            let key = key.try_into().expect("sixteen bytes");
+            self.tickets.push(Ticket::new(mode, key));
         }
     }
 
@@ -224,12 +179,20 @@ impl Day<'_> {
 
     fn feed(&mut self) {
         let number = self.ticket(|t| t.feeding);
+        let left = self.known(number).map_or(0, |t| MOST_FED - t.fed.len());
         let any = self.numbers.below(self.feed + 1);
-        let length = self.numbers.pick(&[0, 1, 7, 8, 9, 31, 32, 33, any, any]);
-        let bytes = self.numbers.bytes(length.min(self.feed));
+        let length = match left {
+            0..=1_024 => self.numbers.pick(&[0, 1, any, left, left + 1]),
+            _ => self.numbers.pick(&[0, 1, 7, 8, 9, 31, 32, 33, any, any]),
+        };
+        self.feed_to(number, length.min(self.feed));
+    }
+
+    fn feed_to(&mut self, number: usize, length: usize) {
+        let bytes = self.numbers.bytes(length);
         self.line_of_bytes("feed", number, &bytes);
         if let Some(ticket) = self.known(number) {
-            if ticket.feeding {
+            if ticket.feeding && ticket.fed.len() + length <= MOST_FED {
                 ticket.fed.extend(bytes);
             }
         }
@@ -240,7 +203,7 @@ impl Day<'_> {
         let number = self.ticket(|t| !late || !t.feeding);
         let left = self
             .known(number)
-            .map_or(0, |t| MOST_DRAWN[t.mode] - t.drawn);
+            .map_or(0, |t| t.mode.most_drawn - t.drawn);
         let any = self.numbers.below(1_025);
         let few = self.numbers.below(40);
         let count = match self.numbers.below(20) {
@@ -251,10 +214,13 @@ impl Day<'_> {
             15 => left + 1,
             _ => self.numbers.below(left.min(64) + 1),
         };
-        let count = count.min(1_024);
+        self.draw_from(number, count.min(1_024));
+    }
+
+    fn draw_from(&mut self, number: usize, count: usize) {
         self.line("draw", number, &format!("{count:04x}"));
         if let Some(ticket) = self.known(number) {
-            if ticket.drawn + count <= MOST_DRAWN[ticket.mode] {
+            if ticket.drawn + count <= ticket.mode.most_drawn {
                 ticket.feeding = false;
                 ticket.drawn += count;
             }
@@ -262,9 +228,9 @@ impl Day<'_> {
     }
 
     fn check(&mut self) {
-        let number = self.ticket(|t| t.mode == 2 && t.fed.len() < 20_000);
+        let number = self.ticket(|t| t.mode.number == 2 && t.fed.len() < 20_000);
         let mut tag = match self.known(number) {
-            Some(ticket) if ticket.mode == 2 => reference::mac(&ticket.key, &ticket.fed),
+            Some(ticket) if ticket.mode.number == 2 => reference::mac(&ticket.key, &ticket.fed),
             _ => self.numbers.bytes(16),
         };
         tag.truncate(self.numbers.between(8, 16));
@@ -277,7 +243,7 @@ impl Day<'_> {
         }
         self.line_of_bytes("check", number, &tag);
         if let Some(ticket) = self.known(number) {
-            if ticket.mode == 2 && (8..=16).contains(&tag.len()) {
+            if ticket.mode.number == 2 && (8..=16).contains(&tag.len()) {
                 ticket.feeding = false;
             }
         }
@@ -355,22 +321,25 @@ fn damage_lines(numbers: &mut Numbers, script: &mut Vec<u8>) {
     *script = lines.concat();
 }
 
-/// A script of random length, whole or damaged.
-pub fn script(numbers: &mut Numbers) -> Vec<u8> {
+/// The script of a seed, of random length, whole or damaged. Of a thousand seeds in a row a few begin at a limit, which takes long scripts.
+pub fn script(seed: u64) -> Vec<u8> {
+    let mut numbers = Numbers(seed);
+    match seed % 1_000 {
+        500 => return day_at_a_limit(&mut numbers, MODES[(seed / 1_000 % 4) as usize], false),
+        501 | 502 => return day_at_a_limit(&mut numbers, &PRF, true),
+        503 | 504 => return day_at_a_limit(&mut numbers, &XOF, true),
+        _ => (),
+    }
     let lines = match numbers.below(20) {
         0..=7 => numbers.between(0, 10),
         8..=14 => numbers.between(10, 60),
         15..=18 => numbers.between(60, 400),
         _ => numbers.between(400, 3_000),
     };
-    let mut script = match numbers.below(5_000) {
-        0 => day_after_feeds(numbers, lines.min(60)),
-        1..=5 => day_after_draws(numbers, lines),
-        _ => day(numbers, lines),
-    };
+    let mut script = day(&mut numbers, lines);
     if numbers.one_in(2) {
         for _ in 0..numbers.between(1, 3) {
-            damage(numbers, &mut script);
+            damage(&mut numbers, &mut script);
         }
     }
     script

@@ -1,5 +1,6 @@
 //! How input comes and output goes: in pieces, across the cuts between reads, in turns, and with errors.
-use script::random::{day, Numbers};
+use reference::numbers::Numbers;
+use script::random::day;
 use script::{assert_same, ends, from_a_file, in_time, printed, program, start, through_a_pipe};
 use std::fs::{File, OpenOptions};
 use std::io::{BufRead, BufReader, Read, Write};

@@ -126,16 +126,3 @@ fn line_1000000_is_malformed() {
     talk.script.extend(b"sum 0 -\nsum 0 -\n");
     talk.assert();
 }
-
-/// Nearly 500,000 tickets, one after the other. The reference, which keeps every entry, is not asked.
-#[test]
-fn half_a_million_tickets() {
-    let mut talk = Talk::default();
-    for ticket in 1..=499_999 {
-        talk.line("open 4 -", format!("ok {ticket} -"));
-        talk.line(format!("close {ticket} -"), "ok 1 -");
-    }
-    talk.line("sum 0 -", "ok 499999 -");
-    let printed = script::through_a_pipe(&program(), &talk.script);
-    script::assert_same(&talk.script, &printed, &talk.expected);
-}

@@ -1,5 +1,5 @@
 //! The same program in plain C, with which the benchmark compares, against the reference: so what is timed does the same work.
-use script::random::{script, Numbers};
+use script::random::script;
 use script::{assert_same, root, through_a_pipe};
 use std::process::Command;
 
@@ -16,8 +16,8 @@ fn the_peer_in_plain_c() {
         .status()
         .expect("cc is installed");
     assert!(built.success(), "cc: {built}");
-    for seed in 0..500 {
-        let script = script(&mut Numbers(1_000_000 + seed));
+    for seed in 1_000_100..1_000_600 {
+        let script = script(seed);
         let printed = through_a_pipe(&peer, &script);
         assert_same(&script, &printed, &reference::script::run(&script));
     }

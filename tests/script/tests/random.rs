@@ -1,6 +1,8 @@
 //! Random scripts, whole and damaged, against the reference. Variables: SCRIPTS is how many there are, SEED which ones; SCRIPT_SECONDS goes on for so many seconds instead.
-use reference::script::run;
-use script::random::{damage, day, script, Numbers};
+use reference::numbers::Numbers;
+use reference::script::{run, run_watched};
+use script::coverage::{missing, Watch};
+use script::random::{damage, day, script};
 use script::{difference, from_a_file, keep, program, through_a_pipe, variable};
 use std::collections::BTreeSet;
 use std::panic::resume_unwind;
@@ -12,23 +14,15 @@ use std::time::{Duration, Instant};
 /// How many scripts are tried at the same time.
 const WORKERS: usize = 2;
 
-/// The kinds of answers in an output: `ok`, `pass`, `fail` and `stop`, and each refusal.
-fn kinds(printed: &[u8], into: &mut BTreeSet<String>) {
-    for line in std::str::from_utf8(printed).unwrap().lines().skip(1) {
-        let mut words = line.split(' ');
-        let (word, number) = (words.next().unwrap(), words.next().unwrap());
-        match word {
-            "no" => into.insert(format!("no {number}")),
-            _ => into.insert(word.to_string()),
-        };
-    }
-}
+/// The scripts that are tried where nothing else is asked for, and of which it is known what they reach.
+const DEFAULT_SEED: u64 = 1;
+const DEFAULT_SCRIPTS: u64 = 3_000;
 
 #[test]
 fn random_scripts() {
-    let seed = variable("SEED").unwrap_or(1);
+    let seed = variable("SEED").unwrap_or(DEFAULT_SEED);
     let seconds = variable("SCRIPT_SECONDS").map(Duration::from_secs);
-    let scripts = variable("SCRIPTS").unwrap_or(3_000);
+    let scripts = variable("SCRIPTS").unwrap_or(DEFAULT_SCRIPTS);
     let (program, start) = (program(), Instant::now());
     let (tried, seen) = (AtomicU64::new(0), Mutex::new(BTreeSet::new()));
     let work = || loop {
@@ -38,8 +32,10 @@ fn random_scripts() {
         }
         // Each script has a seed of its own, so that one that fails can be made alone.
         let own = seed + number;
-        let script = script(&mut Numbers(own));
-        let expected = run(&script);
+        let script = script(own);
+        let mut watch = Watch::default();
+        let expected = run_watched(&script, |call, answer| watch.see(call, answer));
+        watch.end(&expected);
         let printed = match own % 4 {
             0 => from_a_file(&program, &script),
             _ => through_a_pipe(&program, &script),
@@ -51,7 +47,7 @@ fn random_scripts() {
                 path.display()
             );
         }
-        kinds(&expected, &mut seen.lock().unwrap());
+        seen.lock().unwrap().extend(watch.reached);
     };
     let tried = thread::scope(|scope| {
         let spawn = |i| {
@@ -66,16 +62,9 @@ fn random_scripts() {
             .unwrap()
     });
     println!("{tried} scripts in {:?}", start.elapsed());
-    if tried >= 1_000 {
-        // 16 needs 16 MiB fed: few scripts have that, and it has a test of its own. 3 and 14 are out of a script's reach.
-        let seen: Vec<String> = seen
-            .into_inner()
-            .unwrap()
-            .into_iter()
-            .filter(|kind| kind != "no 16")
-            .collect();
-        let all = "fail,no 1,no 11,no 12,no 13,no 15,no 17,no 18,no 2,no 4,ok,pass,stop";
-        assert_eq!(seen.join(","), all);
+    if seed == DEFAULT_SEED && tried >= DEFAULT_SCRIPTS {
+        let missing = missing(&seen.into_inner().unwrap());
+        assert!(missing.is_empty(), "the scripts do not reach {missing:?}");
     }
 }
 
