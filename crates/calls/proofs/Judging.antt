@@ -7,7 +7,7 @@ use Prim.Native.Nat.{ℕ}
 use native.Mathlib.Omega.{arith}
 use lib.ListN.{getD, take}
 use Rattle.word.specs.Word.{bit, word, number, column, rotr}
-use Rattle.word.specs.Bytes.{weight, byteAt, bytesFrom, xorWord, xorAt, xorFrom}
+use Rattle.word.specs.Bytes.{weight, byteAt, bytesFrom, xorWord, xorAt, xorFrom, fromBytes, toBytes, wordsOf, zerosTo}
 use Rattle.permutation.specs.Permutation.{sbox, addConstant, atEveryPlace, substitute, mix, diffuse, round, permute}
 use Rattle.mode.specs.declared.Mode.the-variants.{Mac}
 use Rattle.mode.specs.Mode.{row, named}
@@ -34,7 +34,7 @@ abbrev other : List ℕ
 other = 0xeb ∷ 0x1a ∷ 0xf6 ∷ 0x88 ∷ 0x82 ∷ 0x5d ∷ 0x66 ∷ 0xbf ∷ 0x2d ∷ 0x53 ∷ 0xe1 ∷ 0x35 ∷ 0xf9 ∷ 0x32 ∷ 0x33 ∷ 0x14 ∷ []
 
 mac : macOf key [] ≡ tag
-unfolding row oneShot output squeezeBytes squeezeBlocks absorbMessage absorbBlocks flipIf blocks cut pad start initial ceiling xorFrom xorAt xorWord bytesFrom byteAt weight permute round diffuse substitute atEveryPlace sbox addConstant mix rotr column number word bit
+unfolding row oneShot output squeezeBytes squeezeBlocks absorbMessage absorbBlocks flipIf blocks cut pad start initial fromBytes toBytes wordsOf zerosTo ceiling xorFrom xorAt xorWord bytesFrom byteAt weight permute round diffuse substitute atEveryPlace sbox addConstant mix rotr column number word bit
 mac = refl
 
 -- a check passes for the tag, and for its first 8 bytes
@@ -56,5 +56,5 @@ judging = λ i. opened 1 1 ∷ judged (right i) 2 ∷ judged (wrong i) 2 ∷ jud
 pub drawn-bytes : map (λ (e : Event). e .response .buffer)
     (events machine emptyMachine (Open 2 key ∷ Draw 1 (1 ∷ 2 ∷ 3 ∷ 4 ∷ 5 ∷ []) 1 3 ∷ Draw 1 (1 ∷ 2 ∷ 3 ∷ []) 2 2 ∷ Draw 1 (1 ∷ 2 ∷ 3 ∷ []) 0 2 ∷ []))
     ≡ [] ∷ (1 ∷ 0xeb ∷ 0x1a ∷ 0xf6 ∷ 5 ∷ []) ∷ (1 ∷ 2 ∷ 3 ∷ []) ∷ (0x88 ∷ 0x82 ∷ 3 ∷ []) ∷ []
-unfolding events machine emptyMachine openMachine openChecks named row admit newEntry openCount total drawMachine ticketChecks drawChecks drawOwn standingOf entryOf placeOf find afterDraw put written outputOf oneShot output squeezeBytes squeezeBlocks absorbMessage absorbBlocks flipIf blocks cut pad start initial ceiling xorFrom xorAt xorWord bytesFrom byteAt weight permute round diffuse substitute atEveryPlace sbox addConstant mix rotr column number word bit
+unfolding events machine emptyMachine openMachine openChecks named row admit newEntry openCount total drawMachine ticketChecks drawChecks drawOwn standingOf entryOf placeOf find afterDraw put written outputOf oneShot output squeezeBytes squeezeBlocks absorbMessage absorbBlocks flipIf blocks cut pad start initial fromBytes toBytes wordsOf zerosTo ceiling xorFrom xorAt xorWord bytesFrom byteAt weight permute round diffuse substitute atEveryPlace sbox addConstant mix rotr column number word bit
 drawn-bytes = refl

@@ -5,7 +5,7 @@ use mathlib.Core.Path.{_≡_, refl}
 use mathlib.Core.List.{List, [], _∷_, map}
 use Prim.Native.Nat.{ℕ}
 use Rattle.word.specs.Word.{bit, word, number, column, rotr}
-use Rattle.word.specs.Bytes.{weight, byteAt, bytesFrom, xorWord, xorAt, xorFrom}
+use Rattle.word.specs.Bytes.{weight, byteAt, bytesFrom, xorWord, xorAt, xorFrom, fromBytes, toBytes, wordsOf, zerosTo}
 use Rattle.permutation.specs.Permutation.{sbox, addConstant, atEveryPlace, substitute, mix, diffuse, round, permute}
 use Rattle.mode.specs.Mode.{row, named}
 use Rattle.sponge.specs.Sponge.{ceiling, initial, start, pad, cut, blocks, flipIf, absorbBlocks, absorbMessage, squeezeBlocks, squeezeBytes, output, oneShot, runsFeeding, runsEnded}
@@ -43,7 +43,7 @@ pub ticket-read :
     × (feedingLasts 1 list ≡ true) × (feedingLasts 2 list ≡ false) × (feedingLasts 3 list ≡ false)
     × (runCount 1 list ≡ 2) × (runCount 2 list ≡ 2) × (runCount 3 list ≡ 2) × (runCount 4 list ≡ 0)
     × (bytesDrawn 1 list ≡ []) × (bytesDrawn 2 list ≡ 0xeb ∷ 0x1a ∷ 0xf6 ∷ [])
-unfolding issueOf bytesFed bytesDrawn feedingLasts lastRuns runCount events machine emptyMachine openMachine openChecks named row admit newEntry runsOf formula runsFeeding runsEnded ceiling start openCount total feedMachine drawMachine checkMachine closeMachine ticketChecks feedChecks feedOwn drawChecks drawOwn checkChecks checkOwn standingOf entryOf placeOf find afterFeed afterDraw afterClose put sumMachine written outputOf oneShot output squeezeBytes squeezeBlocks absorbMessage absorbBlocks flipIf blocks cut pad initial xorFrom xorAt xorWord bytesFrom byteAt weight permute round diffuse substitute atEveryPlace sbox addConstant mix rotr column number word bit
+unfolding issueOf bytesFed bytesDrawn feedingLasts lastRuns runCount events machine emptyMachine openMachine openChecks named row admit newEntry runsOf formula runsFeeding runsEnded ceiling start openCount total feedMachine drawMachine checkMachine closeMachine ticketChecks feedChecks feedOwn drawChecks drawOwn checkChecks checkOwn standingOf entryOf placeOf find afterFeed afterDraw afterClose put sumMachine written outputOf oneShot output squeezeBytes squeezeBlocks absorbMessage absorbBlocks flipIf blocks cut pad initial fromBytes toBytes wordsOf zerosTo xorFrom xorAt xorWord bytesFrom byteAt weight permute round diffuse substitute atEveryPlace sbox addConstant mix rotr column number word bit
 ticket-read = (refl, refl, refl, refl, refl, refl, refl, refl, refl, refl, refl, refl, refl, refl, refl, refl)
 
 -- the calls that name ticket 1 once it is issued, refused ones included

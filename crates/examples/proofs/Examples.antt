@@ -2,7 +2,7 @@
 -- Assumes nothing.
 use mathlib.Core.Path.{refl}
 use Rattle.word.specs.Word.{bit, word, number, column, rotr}
-use Rattle.word.specs.Bytes.{fromBytes, xorFrom}
+use Rattle.word.specs.Bytes.{fromBytes, toBytes, wordsOf, zerosTo}
 use Rattle.permutation.specs.Permutation.{addConstant, sbox, atEveryPlace, substitute, mix, diffuse, round, permute}
 use Rattle.mode.specs.Mode.{row}
 use Rattle.sponge.specs.Sponge.{ceiling, initial, start, pad, cut, blocks, runsEnded}
@@ -11,7 +11,7 @@ use Rattle.calls.specs.Machine.{formula}
 use Rattle.examples.specs.Examples.{TwelveExamples}
 
 pub examples : TwelveExamples
-unfolding bit word number column rotr fromBytes xorFrom addConstant sbox atEveryPlace substitute mix diffuse round permute row ceiling initial start pad cut blocks runsEnded startValue formula
+unfolding bit word number column rotr fromBytes addConstant sbox atEveryPlace substitute mix diffuse round permute row ceiling initial toBytes wordsOf zerosTo start pad cut blocks runsEnded startValue formula
 examples =
     record {
       sbox-first = refl;

@@ -1,2 +1,3 @@
 pub mod Sbox
 pub mod State
+pub mod Row

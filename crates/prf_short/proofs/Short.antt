@@ -2,18 +2,19 @@
 -- Assumes nothing.
 use mathlib.Core.Path.{_≡_, refl, sym, ap, _∙_}
 use mathlib.Core.List.{List, [], _∷_, _++_}
-use Prim.Native.Nat.{ℕ, zero, suc, _+_, _-_, _*_, _≤_, _<_}
+use Prim.Native.Nat.{ℕ, zero, suc, _+_, _-_, _≤_, _<_}
 use native.Mathlib.Omega.{arith}
 use borrow.Author.Tests.{le-leb}
-use lib.ListN.{length, getD, drop, replicate, length-append, length-drop, length-replicate}
+use lib.ListN.{length, getD, drop, length-append, length-drop}
 use lib.Seq.{ext-getD, getD-drop}
 use lib.Bits.{bitXor, xor-zero-r}
-use Rattle.word.specs.Bytes.{bytesFrom, xorFrom, xorBytes, window, fromBytes, wordsOf}
+use Rattle.word.specs.Bytes.{bytesFrom, xorFrom, xorBytes, window, wordsOf}
 use Rattle.word.proofs.Arrays.{written-out, cons-same}
-use Rattle.word.proofs.Bytes.{Bytes, append-bytes, zero-bytes, xorFrom-append, xorFrom-zeros, length-bytesFrom, bytesFrom-at}
-use Rattle.word.proofs.Windows.{window-past, window-before, window-moved, length-xorFrom, word-xorFrom, words-xored}
-use Rattle.word.proofs.Xored.{xored-from, length-xorBytes, xorBytes-at, words-read}
-use Rattle.prf_short.specs.Short.{zerosTo, lastBytes, startValue, startWord, start}
+use Rattle.word.proofs.Bytes.{Bytes, append-bytes, zero-bytes, xorFrom-append, length-bytesFrom, bytesFrom-at}
+use Rattle.word.proofs.Windows.{window-past, window-before, window-moved, length-xorFrom, word-xorFrom}
+use Rattle.word.proofs.Xored.{xored-from, length-xorBytes, xorBytes-at}
+use Rattle.state.proofs.Starts.{start-read as read-start, start-xored}
+use Rattle.prf_short.specs.Short.{lastBytes, startValue, startWord, start}
 
 -- ---- the start
 
@@ -26,51 +27,29 @@ module _ (m t : ℕ) (few : m ≤ 16) (short : t ≤ 16) where
   value-bytes (suc (suc (suc zero))) = omega arith
   value-bytes (suc (suc (suc (suc i)))) = zero-bytes 4 i
 
-  -- the first eight bytes make the first word
-  value-word : xorFrom 0 (startValue m t) (replicate 5 0) ≡ startWord m t ∷ 0 ∷ 0 ∷ 0 ∷ 0 ∷ []
-  unfolding startValue wordsOf fromBytes
-  value-word =
-      let filled : wordsOf 5 (startValue m t ++ replicate 32 0) ≡ xorFrom 0 (startValue m t ++ replicate 32 0) (replicate 5 0) =
-      words-xored 5 (startValue m t ++ replicate 32 0) (append-bytes (startValue m t) (replicate 32 0) value-bytes (zero-bytes 32)) refl in
-      sym (filled ∙ xorFrom-append (startValue m t) (replicate 32 0) 0 (replicate 5 0) ∙ xorFrom-zeros 32 8 (xorFrom 0 (startValue m t) (replicate 5 0)))
-
 module _ (key message : List ℕ) (t : ℕ) (bytes : Bytes key) (bytes′ : Bytes message) (n : length key ≡ 16) (few : length message ≤ 16) (short : t ≤ 16) where
-  abbrev parts : List ℕ
-  parts = startValue (length message) t ++ (key ++ message)
+  abbrev rest : List ℕ
+  rest = key ++ message
 
-  length-parts : length parts ≡ 24 + length message
-  unfolding startValue
-  length-parts = simp (length-append) (omega arith)
+  length-rest : length rest ≤ 32
+  length-rest = simp (length-append) (omega arith)
 
-  length-start : length (start key message t) ≡ 8 * 5
-  unfolding start zerosTo
-  length-start =
-      length-append parts (replicate (40 - length parts) 0) ∙ ap (λ (k : ℕ). length parts + k) (length-replicate (40 - length parts) 0)
-      ∙ omega (arith, length-parts)
-
-  all-bytes : Bytes (start key message t)
-  unfolding start zerosTo
-  all-bytes =
-      append-bytes parts (replicate (40 - length parts) 0)
-      (append-bytes (startValue (length message) t) (key ++ message) (value-bytes (length message) t few short) (append-bytes key message bytes bytes′))
-      (zero-bytes (40 - length parts))
+  rest-bytes : Bytes rest
+  rest-bytes = append-bytes key message bytes bytes′
 
   -- the words that the permutation gets, read as bytes, are the forty bytes of the start
   pub start-read : bytesFrom 0 40 (wordsOf 5 (start key message t)) ≡ start key message t
-  start-read = words-read 5 (start key message t) all-bytes length-start
+  unfolding start startValue
+  start-read = read-start (startValue (length message) t) rest refl length-rest (value-bytes (length message) t few short) rest-bytes
 
   abbrev unkeyed : List ℕ
   unkeyed = startWord (length message) t ∷ 0 ∷ 0 ∷ 0 ∷ 0 ∷ []
 
   -- the same words: the start word and zeros, with the key and the message xored in
   xored-in : xorFrom 24 message (xorFrom 8 key unkeyed) ≡ wordsOf 5 (start key message t)
-  unfolding start zerosTo startValue
+  unfolding start startValue
   xored-in =
-      sym (words-xored 5 (start key message t) all-bytes length-start
-      ∙ xorFrom-append parts (replicate (40 - length parts) 0) 0 (replicate 5 0)
-      ∙ xorFrom-zeros (40 - length parts) (0 + length parts) (xorFrom 0 parts (replicate 5 0))
-      ∙ xorFrom-append (startValue (length message) t) (key ++ message) 0 (replicate 5 0)
-      ∙ ap (xorFrom 8 (key ++ message)) (value-word (length message) t few short)
+      sym (start-xored (startValue (length message) t) rest refl length-rest (value-bytes (length message) t few short) rest-bytes
       ∙ xorFrom-append key message 8 unkeyed
       ∙ rw n)
 

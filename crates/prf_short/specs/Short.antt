@@ -3,13 +3,9 @@
 -- Assumes nothing.
 use mathlib.Core.List.{List, [], _∷_, _++_}
 use Prim.Native.Nat.{ℕ, _-_, _*_}
-use lib.ListN.{length, drop, replicate}
-use Rattle.word.specs.Bytes.{bytesFrom, xorBytes, fromBytes, wordsOf}
+use lib.ListN.{length, drop}
+use Rattle.word.specs.Bytes.{bytesFrom, xorBytes, fromBytes, wordsOf, zerosTo}
 use Rattle.permutation.specs.Permutation.{run}
-
--- zeros up to n bytes
-unfoldable pub zerosTo : ℕ → List ℕ → List ℕ
-zerosTo n bs = bs ++ replicate (n - length bs) 0
 
 -- the last t bytes [⌈X⌉^t]
 unfoldable pub lastBytes : ℕ → List ℕ → List ℕ

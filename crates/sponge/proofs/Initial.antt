@@ -1,54 +1,48 @@
--- What the initial state is, byte by byte, for the reader of specs/Sponge.antt: the start word's eight bytes, the key, and zeros.
+-- The initial state of a mode: that its words, read as bytes, are the forty bytes of specs/Sponge.antt, for the reader; and that it is made by xoring the key in behind the
+-- start word, as the code goes.
 -- Assumes nothing.
-use mathlib.Core.Path.{_≡_, sym, ap, ap₂, _∙_}
+use mathlib.Core.Path.{_≡_, refl, ap, _∙_}
 use mathlib.Core.List.{List, [], _∷_, _++_}
-use Prim.Native.Nat.{ℕ, suc, _+_, _-_, _/_, _≤_}
-use native.Mathlib.Nat.{zero-div}
+use Prim.Native.Nat.{ℕ, _≤_}
 use native.Mathlib.Omega.{arith}
-use borrow.Author.Tests.{le-leb}
-use lib.Bits.{bitXor, xor-zero-r}
-use lib.ListN.{length, getD, take, replicate, length-append, length-replicate}
-use lib.Seq.{take-all}
-use Rattle.word.specs.Bytes.{byteAt, bytesFrom, xorFrom, toBytes}
-use Rattle.word.proofs.Lists.{zeros-at, then-zeros}
-use Rattle.word.proofs.Bytes.{Bytes, bytesFrom-word, bytesFrom-add, by-bytes}
-use Rattle.word.proofs.Windows.{window-past, word-xorFrom}
-use Rattle.word.proofs.Xored.{xored-from}
-use Rattle.mode.specs.Mode.{Row}
+use lib.ListN.{length, take, length-take}
+use Rattle.word.specs.Bytes.{bytesFrom, xorFrom, fromBytes, toBytes, zerosTo}
+use Rattle.word.proofs.Bytes.{Bytes, part-bytes, number-bytes}
+use Rattle.state.proofs.Starts.{start-read, start-xored}
+use Rattle.mode.specs.declared.Mode.{Mode}
+use Rattle.mode.specs.declared.Mode.the-variants.{Prf, Mac, Hash, Xof}
+use Rattle.mode.specs.Mode.{row}
 use Rattle.sponge.specs.Sponge.{initial}
 
-module _ (word : ℕ) (key : List ℕ) (bytes : Bytes key) (short : length key ≤ 32) where
-  abbrev unkeyed : List ℕ
-  unkeyed = word ∷ 0 ∷ 0 ∷ 0 ∷ 0 ∷ []
+-- a start word is the number that its eight bytes make
+start-number : (mode : Mode) → fromBytes (toBytes 8 (row mode .startWord)) ≡ row mode .startWord
+unfolding row fromBytes toBytes
+start-number Prf = refl
+start-number Mac = refl
+start-number Hash = refl
+start-number Xof = refl
 
-  -- the first word is the start word: the key stands behind it
-  first-word : getD (xorFrom 8 key unkeyed) 0 0 ≡ word
-  first-word = word-xorFrom key unkeyed 8 0 (omega arith) ∙ ap (bitXor word) (window-past key 8 0 (omega arith)) ∙ xor-zero-r word
+-- what is taken of a key fits behind it
+key-fits : (mode : Mode) (key : List ℕ) → length (take (row mode .keyLength) key) ≤ 32
+unfolding row
+key-fits Prf key = omega (arith, length-take 16 key)
+key-fits Mac key = omega (arith, length-take 16 key)
+key-fits Hash key = omega (arith, length-take 0 key)
+key-fits Xof key = omega (arith, length-take 0 key)
 
-  -- behind the start word there are zeros
-  zero-byte : (i : ℕ) → byteAt unkeyed (8 + i) ≡ 0
-  unfolding byteAt
-  zero-byte i =
-      let behind : (8 + i) / 8 ≡ suc (i / 8) = omega arith in
-      rw (behind, zeros-at 4 (i / 8), zero-div)
+module _ (mode : Mode) (key : List ℕ) (bytes : Bytes key) where
+  abbrev value : List ℕ
+  value = toBytes 8 (row mode .startWord)
 
-  key-byte : (i : ℕ) → getD (key ++ replicate (32 - length key) 0) i 0 ≡ byteAt (xorFrom 8 key unkeyed) (8 + i)
-  key-byte i =
-      let index : 8 + i - 8 ≡ i = omega arith in
-      then-zeros key (32 - length key) i
-      ∙ sym (xored-from key 8 (8 + i) unkeyed (omega arith) bytes ∙ rw (le-leb 8 (8 + i) (omega arith), index, zero-byte i))
+  abbrev used : List ℕ
+  used = take (row mode .keyLength) key
 
-  start-and-key : bytesFrom 0 40 (xorFrom 8 key unkeyed) ≡ toBytes 8 word ++ (key ++ replicate (32 - length key) 0)
-  start-and-key =
-      let count : length (key ++ replicate (32 - length key) 0) ≡ 32 = simp (length-append, length-replicate) (omega arith) in
-      bytesFrom-add 8 32 0 (xorFrom 8 key unkeyed)
-      ∙ ap₂ (λ (a b : List ℕ). a ++ b) (bytesFrom-word (xorFrom 8 key unkeyed) 0 ∙ ap (toBytes 8) first-word)
-      (ap (λ (n : ℕ). bytesFrom 8 n (xorFrom 8 key unkeyed)) (sym count) ∙ sym (by-bytes (key ++ replicate (32 - length key) 0) 8 (xorFrom 8 key unkeyed) (λ i l. key-byte i)))
+  pub initial-bytes : bytesFrom 0 40 (initial (row mode) key) ≡ zerosTo 40 (value ++ used)
+  unfolding initial toBytes
+  initial-bytes = start-read value used refl (key-fits mode key) (number-bytes 8 (row mode .startWord)) (part-bytes (row mode .keyLength) 0 key bytes)
 
--- for a key of the mode's length
-pub initial-bytes : (w : Row) (key : List ℕ) → Bytes key → length key ≡ w .keyLength → length key ≤ 32
-    → bytesFrom 0 40 (initial w key) ≡ toBytes 8 (w .startWord) ++ (key ++ replicate (32 - length key) 0)
-unfolding initial
-initial-bytes w key bytes e short =
-    let all : take (w .keyLength) key ≡ key = take-all (w .keyLength) key (omega arith) in
-    ap (λ (k : List ℕ). bytesFrom 0 40 (xorFrom 8 k (w .startWord ∷ 0 ∷ 0 ∷ 0 ∷ 0 ∷ []))) all ∙ start-and-key (w .startWord) key bytes short
+  pub initial-xored : initial (row mode) key ≡ xorFrom 8 used (row mode .startWord ∷ 0 ∷ 0 ∷ 0 ∷ 0 ∷ [])
+  unfolding initial toBytes
+  initial-xored =
+      start-xored value used refl (key-fits mode key) (number-bytes 8 (row mode .startWord)) (part-bytes (row mode .keyLength) 0 key bytes)
+      ∙ ap (λ (x : ℕ). xorFrom 8 used (x ∷ 0 ∷ 0 ∷ 0 ∷ 0 ∷ [])) (start-number mode)

@@ -7,3 +7,4 @@ pub mod Tags
 pub mod Calls
 pub mod Streaming
 pub mod Initial
+pub mod Examples

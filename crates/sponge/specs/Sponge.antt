@@ -5,7 +5,7 @@ use mathlib.Core.Bool.{Bool, cond}
 use mathlib.Core.List.{List, [], _∷_, _++_}
 use Prim.Native.Nat.{ℕ, zero, suc, _+_, _-_, _/_, _%_, max}
 use lib.ListN.{length, take, drop, replicate}
-use Rattle.word.specs.Bytes.{bytesFrom, xorWord, xorFrom}
+use Rattle.word.specs.Bytes.{bytesFrom, xorWord, xorFrom, toBytes, wordsOf, zerosTo}
 use Rattle.permutation.specs.Permutation.{run}
 use Rattle.mode.specs.Mode.{Row}
 
@@ -17,7 +17,7 @@ ceiling d r = (d + (r - 1)) / r
 
 -- the start word, the key, and zeros up to forty bytes [IV ∥ K ∥ 0*]. Of a key that is longer than the mode's, the first bytes count
 unfoldable pub initial : Row → List ℕ → List ℕ
-initial w key = xorFrom 8 (take (w .keyLength) key) (w .startWord ∷ 0 ∷ 0 ∷ 0 ∷ 0 ∷ [])
+initial w key = wordsOf 5 (zerosTo 40 (toBytes 8 (w .startWord) ++ take (w .keyLength) key))
 
 -- where feeding starts: a state, and the runs made by then
 pub record Start : Type 0 where

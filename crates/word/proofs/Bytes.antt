@@ -73,6 +73,13 @@ zero-bytes zero i = omega arith
 zero-bytes (suc n) zero = omega arith
 zero-bytes (suc n) (suc i) = zero-bytes n i
 
+-- and the bytes of a number
+pub number-bytes : (n x : ℕ) → Bytes (toBytes n x)
+unfolding toBytes
+number-bytes zero x i = omega arith
+number-bytes (suc n) x zero = omega arith
+number-bytes (suc n) x (suc i) = number-bytes n x i
+
 pub fromBytes-lt : (bs : List ℕ) → Bytes bs → fromBytes bs < 2 ^ (8 * length bs)
 unfolding fromBytes
 fromBytes-lt [] h = omega arith

@@ -3,10 +3,10 @@
 -- 8 × n bytes, read as bytes, are these (all in proofs/Xored.antt).
 -- Assumes nothing.
 use mathlib.Core.Bool.{cond}
-use mathlib.Core.List.{List, [], _∷_}
+use mathlib.Core.List.{List, [], _∷_, _++_}
 use Prim.Native.Nat.{ℕ, zero, suc, _+_, _-_, _*_, _/_, _%_, _^_}
 use lib.Dec.{eqb}
-use lib.ListN.{length, getD, set, take, drop}
+use lib.ListN.{length, getD, set, take, drop, replicate}
 use lib.Bits.{bitXor}
 
 -- what byte k counts in its word
@@ -62,3 +62,7 @@ toBytes (suc n) x = x / 2 ^ (8 * n) % 256 ∷ toBytes n x
 unfoldable pub wordsOf : ℕ → List ℕ → List ℕ
 wordsOf zero bs = []
 wordsOf (suc n) bs = fromBytes (take 8 bs) ∷ wordsOf n (drop 8 bs)
+
+-- bytes, and zeros after them up to n
+unfoldable pub zerosTo : ℕ → List ℕ → List ℕ
+zerosTo n bs = bs ++ replicate (n - length bs) 0

@@ -7,10 +7,11 @@ use denote.Ref.{now}
 use lib.ListN.{take}
 use lib.Seq.{length-take-le}
 use Rattle.word.specs.Bytes.{xorFrom}
+use Rattle.word.proofs.Bytes.{Bytes}
 use Rattle.word.proofs.Lists.{take-min}
 use Rattle.mode.specs.Mode.{row}
-use Rattle.sponge.specs.Sponge.{initial}
 use Rattle.sponge.specs.Record.{fresh}
+use Rattle.sponge.proofs.Initial.{initial-xored}
 use borrow.Author.Needs.{needs}
 use Rattle.sponge.proofs.record.Record.fresh.Statement.{statement}
 use Rattle.sponge.proofs.record.Record.fresh.Tie as tie
@@ -36,12 +37,14 @@ run-requires : tie.Need-run-requires
 run-requires c κs = search needs
 
 returns : tie.Need-returns
-unfolding fresh initial
+unfolding fresh
 returns c =
     let a = c .before .before .before .before .before .before .before .args in
-    let keyed : c .before .xor-bytes .result ≡ xorFrom 8 (take (c .before .before .before .before .shorter .result) (now (a .key))) (c .before .before .before .start-word .result ∷ 0 ∷ 0 ∷ 0 ∷ 0 ∷ []) =
+    let bytes : Bytes (now (a .key)) = λ i. omega (arith, c .before .before .before .before .before .before .shared-slice-known .given i) in
+    let keyed : c .before .xor-bytes .result
+    ≡ xorFrom 8 (take (c .before .before .before .before .shorter .result) (now (a .key))) (c .before .before .before .start-word .result ∷ 0 ∷ 0 ∷ 0 ∷ 0 ∷ []) =
     c .before .xor-bytes .ensures in
-    rw (c .run .ensures, keyed, c .before .before .before .start-word .ensures, c .before .before .before .before .shorter .ensures, c .before .before .before .before .before .key-length .ensures, take-min (row (a .mode) .keyLength) (now (a .key)))
+    rw (c .run .ensures, keyed, c .before .before .before .start-word .ensures, c .before .before .before .before .shorter .ensures, c .before .before .before .before .before .key-length .ensures, take-min (row (a .mode) .keyLength) (now (a .key)), initial-xored (a .mode) (now (a .key)) bytes)
 
 pub fresh-spec : {M : Type 1} → statement M
 fresh-spec =
