@@ -31,7 +31,10 @@ pub record RefusedWith (n : ℕ) (key frame : List ℕ) (body : ℕ) : Type 0 wh
 -- a key that does not have sixteen bytes is refused with 2; else a frame with no room for the tag after the body is refused with 3
 pub refusals : (key frame : List ℕ) (body : ℕ)
     → (length key ≢ 16 → RefusedWith 2 key frame body) × (length key ≡ 16 → length frame < body + 16 → RefusedWith 3 key frame body)
-refusals key frame body = (λ h. by 2 (refused-2 key frame body h) (λ e. omega (arith, e)), λ h l. by 3 (refused-3 key frame body h (lt-ltb _ _ l)) (λ e. omega (arith, e)))
+refusals key frame body = (
+  λ h. by 2 (refused-2 key frame body h) (λ e. omega (arith, e)),
+  λ h l. by 3 (refused-3 key frame body h (lt-ltb _ _ l)) (λ e. omega (arith, e)),
+)
   where
     by : (n : ℕ) → frameRefusal key frame body ≡ n → n ≢ 0 → RefusedWith n key frame body
     by n e h = record {

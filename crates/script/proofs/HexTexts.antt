@@ -105,7 +105,8 @@ pub record Decoding (s first : List ℕ) (buffer : List ℕ) (k : ℕ) : Type 0 
 pub decoding-starts : (s buffer : List ℕ) → hexPairs s ≡ true → Decoding s buffer buffer 0
 decoding-starts s buffer e = record { pairs = e; stored = refl; count = omega arith }
 
-pub decoding-goes-on : (s first buffer : List ℕ) (k x y : ℕ) → Decoding s first buffer k → 2 * k + 1 < length s → x ≡ nibble (getD s (2 * k) 0) → y ≡ nibble (getD s (2 * k + 1) 0)
+pub decoding-goes-on : (s first buffer : List ℕ) (k x y : ℕ) → Decoding s first buffer k → 2 * k + 1 < length s → x ≡ nibble (getD s (2 * k) 0)
+    → y ≡ nibble (getD s (2 * k + 1) 0)
     → Decoding s first (set buffer k (x * 16 + y)) (k + 1)
 decoding-goes-on s first buffer k x y d h p q =
     let n : 2 * (k + 1) ≡ 2 * k + 2 = omega arith in

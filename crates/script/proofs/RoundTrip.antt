@@ -239,8 +239,11 @@ number-back s n e = go (isNumber s) refl e
     go true p q =
         let w : valueFrom 0 s ≡ n = cc in
         let r = and-right (plainStart s) (allDigits s && leb (valueFrom 0 s) mostNumber) p in
-        let m = leb-true (valueFrom 0 s) mostNumber (and-right (allDigits s) (leb (valueFrom 0 s) mostNumber) r) in
-        (sym (spelled-back s (and-left (plainStart s) (allDigits s && leb (valueFrom 0 s) mostNumber) p) (and-left (allDigits s) (leb (valueFrom 0 s) mostNumber) r) m) ∙ ap decimal w, omega (arith, m, w))
+        let m = leb-true (valueFrom 0 s) mostNumber (and-right (allDigits s) (leb (valueFrom 0 s) mostNumber) r) in (
+          sym (spelled-back s (and-left (plainStart s) (allDigits s && leb (valueFrom 0 s) mostNumber) p)
+              (and-left (allDigits s) (leb (valueFrom 0 s) mostNumber) r) m) ∙ ap decimal w,
+          omega (arith, m, w),
+        )
     go false p q = never n q
 
 -- ---- a field that is read was written so, and fits
@@ -291,8 +294,10 @@ unfolding isCount fieldText countValue
 count-back-text s e =
     let r = and-right (eqb (length s) 4) (hexPairs s && leb (countValue s) mostCount) e in
     let n = eqb-true (length s) 4 (and-left (eqb (length s) 4) (hexPairs s && leb (countValue s) mostCount) e) in
-    let p = and-left (hexPairs s) (leb (countValue s) mostCount) r in
-    (sym (decoded-hex s p) ∙ ap hexOf (two-bytes (decoded s) (omega (arith, decoded-length s p, n)) (decoded-bytes s p)), leb-true (countValue s) mostCount (and-right (hexPairs s) (leb (countValue s) mostCount) r))
+    let p = and-left (hexPairs s) (leb (countValue s) mostCount) r in (
+      sym (decoded-hex s p) ∙ ap hexOf (two-bytes (decoded s) (omega (arith, decoded-length s p, n)) (decoded-bytes s p)),
+      leb-true (countValue s) mostCount (and-right (hexPairs s) (leb (countValue s) mostCount) r),
+    )
 
 draw-back : (s : List ℕ) (f : Field) → countOf s ≡ found f → (s ≡ fieldText f) × ACount f
 unfolding countOf
@@ -336,7 +341,8 @@ unfolding before after
 joined b [] h = absurd (omega arith)
 joined b (a ∷ s) h = go (eqb a b) refl h (λ k. joined b s k)
   where
-    go : (t : Bool) → eqb a b ≡ t → 1 ≤ length (cond t s (after b s)) → (1 ≤ length (after b s) → s ≡ before b s ++ b ∷ after b s) → a ∷ s ≡ cond t [] (a ∷ before b s) ++ b ∷ cond t s (after b s)
+    go : (t : Bool) → eqb a b ≡ t → 1 ≤ length (cond t s (after b s)) → (1 ≤ length (after b s) → s ≡ before b s ++ b ∷ after b s)
+        → a ∷ s ≡ cond t [] (a ∷ before b s) ++ b ∷ cond t s (after b s)
     go true p k ih = ap (λ (x : ℕ). x ∷ s) (eqb-true a b p)
     go false p k ih = ap (λ (r : List ℕ). a ∷ r) (ih k)
 

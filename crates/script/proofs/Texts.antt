@@ -30,7 +30,8 @@ and-right false t e = absurd (false≢true e)
 
 -- ---- the same text
 
-same-next : (a b : List ℕ) (i : ℕ) → i < length a → i < length b → same (drop i a) (drop i b) ≡ eqb (getD a i 0) (getD b i 0) && same (drop (i + 1) a) (drop (i + 1) b)
+same-next : (a b : List ℕ) (i : ℕ) → i < length a → i < length b
+    → same (drop i a) (drop i b) ≡ eqb (getD a i 0) (getD b i 0) && same (drop (i + 1) a) (drop (i + 1) b)
 unfolding same
 same-next a b i ha hb = rw (add-one, drop-cons a i 0, drop-cons b i 0)
 
@@ -41,7 +42,8 @@ same-end a b i ha hb = rw (drop-of-length-le a ha, drop-of-length-le b hb)
 pub same-differs : (a b : List ℕ) (i : ℕ) → i < length a → i < length b → (getD a i 0 ≡ getD b i 0 → ⊥) → same (drop i a) (drop i b) ≡ false
 same-differs a b i ha hb h = rw (same-next a b i ha hb, ne-eqb _ _ h)
 
-pub same-goes-on : (a b : List ℕ) (i : ℕ) → i < length a → i < length b → getD a i 0 ≡ getD b i 0 → same (drop i a) (drop i b) ≡ same (drop (i + 1) a) (drop (i + 1) b)
+pub same-goes-on : (a b : List ℕ) (i : ℕ) → i < length a → i < length b → getD a i 0 ≡ getD b i 0
+    → same (drop i a) (drop i b) ≡ same (drop (i + 1) a) (drop (i + 1) b)
 same-goes-on a b i ha hb h = rw (same-next a b i ha hb, eq-eqb _ _ h)
 
 pub same-lengths : (a b : List ℕ) → (length a ≡ length b → ⊥) → same a b ≡ false
@@ -190,7 +192,8 @@ sets-fitting l u at n e = go (decLe (length u) n)
     go (no h) =
         let k : length (take n u) ≡ n = length-take-le n u (omega arith) in
         let m : length (sets l at (take n u)) ≡ length l = length-sets l at (take n u) in
-        sym (ap (sets l at) (sym (take-append-drop n u)) ∙ sets-append (take n u) (drop n u) l at ∙ sets-past (drop n u) (sets l at (take n u)) (at + length (take n u)) (omega arith))
+        sym (ap (sets l at) (sym (take-append-drop n u)) ∙ sets-append (take n u) (drop n u) l at
+        ∙ sets-past (drop n u) (sets l at (take n u)) (at + length (take n u)) (omega arith))
 
 -- no byte: the place is the buffer's end where it was past it
 pub wrote-none : (l : List ℕ) (at n : ℕ) → n ≡ min at (length l) → Wrote l at [] l n

@@ -43,7 +43,8 @@ module _ (word : ℕ) (key : List ℕ) (bytes : Bytes key) (short : length key �
       let count : length (key ++ replicate (32 - length key) 0) ≡ 32 = simp (length-append, length-replicate) (omega arith) in
       bytesFrom-add 8 32 0 (xorFrom 8 key unkeyed)
       ∙ ap₂ (λ (a b : List ℕ). a ++ b) (bytesFrom-word (xorFrom 8 key unkeyed) 0 ∙ ap (toBytes 8) first-word)
-      (ap (λ (n : ℕ). bytesFrom 8 n (xorFrom 8 key unkeyed)) (sym count) ∙ sym (by-bytes (key ++ replicate (32 - length key) 0) 8 (xorFrom 8 key unkeyed) (λ i l. key-byte i)))
+      (ap (λ (n : ℕ). bytesFrom 8 n (xorFrom 8 key unkeyed)) (sym count)
+      ∙ sym (by-bytes (key ++ replicate (32 - length key) 0) 8 (xorFrom 8 key unkeyed) (λ i l. key-byte i)))
 
 -- for a key of the mode's length
 pub initial-bytes : (w : Row) (key : List ℕ) → Bytes key → length key ≡ w .keyLength → length key ≤ 32

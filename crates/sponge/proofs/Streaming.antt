@@ -142,7 +142,8 @@ module _ (ticket : ℕ) (mode : Mode) (key m : List ℕ) where
   unfolding block nextBytes others fresh afterRun
   calls-block =
       ap block finished-whole
-      ∙ sym (block-drawn (row mode) draws x (row mode .drawRate) 0 0 x x (ready-first (row mode) draws 0 x refl) (zero-mod (row mode .drawRate)) draws (rw zero-add (le-refl (row mode .drawRate))) .1)
+      ∙ sym (block-drawn (row mode) draws x (row mode .drawRate) 0 0 x x (ready-first (row mode) draws 0 x refl) (zero-mod (row mode .drawRate)) draws
+      (rw zero-add (le-refl (row mode .drawRate))) .1)
       ∙ sym (ap (nextBytes (row mode .drawRate)) finished-whole)
       ∙ calls-all-bytes (row mode .drawRate)
     where

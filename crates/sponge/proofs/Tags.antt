@@ -57,7 +57,8 @@ SameBelow words tag i = (k : ℕ) → k < i → getD tag k 0 ≡ byteAt words k
 -- a tag that is longer than the block
 pub too-long : (tag words : List ℕ) (R : ℕ) → R < length tag → same tag (take (length tag) (bytesFrom 0 R words)) ≡ false
 too-long tag words R h =
-    other-same tag (take (length tag) (bytesFrom 0 R words)) (λ e. omega (arith, ap length e, length-take (length tag) (bytesFrom 0 R words), length-bytesFrom R 0 words))
+    other-same tag (take (length tag) (bytesFrom 0 R words)) (λ e. omega
+    (arith, ap length e, length-take (length tag) (bytesFrom 0 R words), length-bytesFrom R 0 words))
 
 -- a number that is 0 exactly where all bytes of the tag are those of the words
 pub judged : (tag words : List ℕ) (R difference : ℕ) → length tag ≤ R

@@ -55,4 +55,7 @@ length-most i = go (ltb i 130) refl
   where
     go : (t : Bool) → ltb i 130 ≡ t → cond t i (getD longer (i - 130) 0) ≤ 1024
     go true e = omega (arith, ltb-true i 130 e)
-    go false e = le-of-suc-le-suc (below-at longer (lit< tt) (lit< tt, (lit< tt, (lit< tt, (lit< tt, (lit< tt, (lit< tt, (lit< tt, (lit< tt, (lit< tt, tt))))))))) (i - 130))
+    go false e = le-of-suc-le-suc (below-at longer (lit< tt) (
+      lit< tt,
+      (lit< tt, (lit< tt, (lit< tt, (lit< tt, (lit< tt, (lit< tt, (lit< tt, (lit< tt, tt)))))))),
+    ) (i - 130))

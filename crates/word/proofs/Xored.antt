@@ -33,7 +33,14 @@ alone-above b u v h l = rw (div-eq-of-lt (lt-of-lt-of-le (shl-lt 8 v h) (pow-mon
 alone-below : (b u v : ℕ) → 8 + u ≤ v → b * 2 ^ v / 2 ^ u % 256 ≡ 0
 alone-below b u v l =
     let e : v ≡ (v - 8 - u) + 8 + u = omega arith in
-    rw (e, pow-add 2 (v - 8 - u + 8) u, pow-add 2 (v - 8 - u) 8, ← mul-assoc b (2 ^ (v - 8 - u) * 2 ^ 8) (2 ^ u), shl-shr (b * (2 ^ (v - 8 - u) * 2 ^ 8)) u, ← mul-assoc)
+    rw (
+      e,
+      pow-add 2 (v - 8 - u + 8) u,
+      pow-add 2 (v - 8 - u) 8,
+      ← mul-assoc b (2 ^ (v - 8 - u) * 2 ^ 8) (2 ^ u),
+      shl-shr (b * (2 ^ (v - 8 - u) * 2 ^ 8)) u,
+      ← mul-assoc,
+    )
     (mul-mod-left (b * 2 ^ (v - 8 - u)) 256)
 
 -- bytes k and m of one word
@@ -140,4 +147,5 @@ pub words-read : (n : ℕ) (bs : List ℕ) → Bytes bs → length bs ≡ 8 * n 
 unfolding byteAt
 words-read n bs bytes e =
     rw (words-xored n bs bytes e, ← e)
-    (sym (by-bytes bs 0 (xorFrom 0 bs (replicate n 0)) (λ i l. sym (xored-block bs (replicate n 0) (rw (length-replicate {A = ℕ} n 0) (omega arith)) bytes (0 + i) ∙ rw (zeros-at n ((0 + i) / 8), zero-div, zero-add)))))
+    (sym (by-bytes bs 0 (xorFrom 0 bs (replicate n 0)) (λ i l. sym
+    (xored-block bs (replicate n 0) (rw (length-replicate {A = ℕ} n 0) (omega arith)) bytes (0 + i) ∙ rw (zeros-at n ((0 + i) / 8), zero-div, zero-add)))))

@@ -60,7 +60,8 @@ loop-again c =
     let a = c .before .before .before .before .before .before .before .before .args in (
       omega arith,
       simp length-set (now .inv .1),
-      rw (c .digit2 .ensures, c .before .before .digit .ensures) (hex-next (a .bytes .now) (now .text) (now .i) (omega arith) (omega (arith, now .inv .1)) (now .inv .2)),
+      rw (c .digit2 .ensures, c .before .before .digit .ensures)
+          (hex-next (a .bytes .now) (now .text) (now .i) (omega arith) (omega (arith, now .inv .1)) (now .inv .2)),
     )
 
 same-length : tie.Need-same-length Inv-loop μ-loop

@@ -22,7 +22,11 @@ same-length c = search needs
 
 returns : tie.Need-returns
 unfolding answered
-returns c = rw (c .before .before .before .before .before .word-for .ensures, c .before .before .before .before .number-for .ensures, c .before .before .before .bytes-for .ensures) at (c .before .before .write-answer .ensures)
+returns c = rw (
+  c .before .before .before .before .before .word-for .ensures,
+  c .before .before .before .before .number-for .ensures,
+  c .before .before .before .bytes-for .ensures,
+) at (c .before .before .write-answer .ensures)
 
 pub tell-spec : {M : Type 1} → statement M
 tell-spec =

@@ -41,8 +41,10 @@ loop-again c =
     let digit = c .before .is-digit in (
       omega arith,
       ⊎-elim
-          (λ w. ap (λ (t : Bool). t && allHex (drop (l .i + 1) s)) (w .1) ∙ digit-bad s (l .i) (l .all) (omega arith) (sym (digit .ensures) ∙ not-true (digit .result) (w .0 .taken)))
-          (λ w. ap (λ (t : Bool). t && allHex (drop (l .i + 1) s)) (w .1) ∙ digit-good s (l .i) (l .all) (omega arith) (sym (digit .ensures) ∙ not-false (digit .result) (w .0 .left)))
+          (λ w. ap (λ (t : Bool). t && allHex (drop (l .i + 1) s)) (w .1)
+          ∙ digit-bad s (l .i) (l .all) (omega arith) (sym (digit .ensures) ∙ not-true (digit .result) (w .0 .taken)))
+          (λ w. ap (λ (t : Bool). t && allHex (drop (l .i + 1) s)) (w .1)
+          ∙ digit-good s (l .i) (l .all) (omega arith) (sym (digit .ensures) ∙ not-false (digit .result) (w .0 .left)))
           (c .if1 .came)
           ∙ l .inv .1,
     )

@@ -23,7 +23,11 @@ place-in-requires c κs = search needs
 
 loop-holds : tie.Need-loop-holds Inv-loop μ-loop
 unfolding hexOf
-loop-holds c = (omega arith, wrote-none (now (c .before .before .before .before .args .out)) (c .before .before .before .before .args .at) (c .place-in .result) (c .place-in .ensures))
+loop-holds c = (
+  omega arith,
+  wrote-none (now (c .before .before .before .before .args .out)) (c .before .before .before .before .args .at) (c .place-in .result)
+      (c .place-in .ensures),
+)
 
 shared-slice-read-b : tie.Need-shared-slice-read-b Inv-loop μ-loop
 shared-slice-read-b c = omega arith
@@ -53,7 +57,8 @@ loop-again c =
       omega arith,
       rw (hex-next s (l .i) (omega arith))
           (wrote-more
-          (wrote-more (l .inv .1) (rw (c .before .before .before .before .before .before .before .before .glyph .ensures) at (c .before .before .before .before .before .before .before .put-byte .ensures)))
+          (wrote-more (l .inv .1) (rw (c .before .before .before .before .before .before .before .before .glyph .ensures) at
+          (c .before .before .before .before .before .before .before .put-byte .ensures)))
           (rw (c .before .before .before .glyph2 .ensures) at (c .before .before .put-byte2 .ensures))),
     )
 

@@ -32,7 +32,10 @@ unfolding bytesOf
 returns-2 c =
     let a = c .before .before .before .before .before .before .before .before .before .before .args in
     let decoded = c .before .before .decode .ensures in
-    rw (sym (c .before .before .before .before .before .before .before .is-dash .ensures) ∙ c .before .before .before .before .before .before .if1 .left, sym (c .before .before .before .before .before .is-hex .ensures) ∙ c .before .before .before .before .if2 .taken)
+    rw (
+      sym (c .before .before .before .before .before .before .before .is-dash .ensures) ∙ c .before .before .before .before .before .before .if1 .left,
+      sym (c .before .before .before .before .before .is-hex .ensures) ∙ c .before .before .before .before .if2 .taken,
+    )
     (ap (Call (a .verb) (a .number)) (decoded .1), decoded .0)
 
 returns-3 : tie.Need-returns-3

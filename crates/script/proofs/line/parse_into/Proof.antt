@@ -18,10 +18,12 @@ use Rattle.script.proofs.line.parse_into.Tie as tie
 short : (c : tie.After-number-of) → length (now (c .before .before .before .before .before .before .before .before .args .line)) ≤ longestLine
 short c = c .before .before .before .before .before .if1 .left
 
-verb-read : (c : tie.After-number-of) → verbOf (before space (now (c .before .before .before .before .before .before .before .before .args .line))) ≡ verbIn (c .before .before .verb-of .result)
+verb-read : (c : tie.After-number-of) → verbOf (before space (now (c .before .before .before .before .before .before .before .before .args .line)))
+    ≡ verbIn (c .before .before .verb-of .result)
 verb-read c = sym (c .before .before .verb-of .ensures ∙ ap verbOf (c .before .before .before .before2 .ensures))
 
-number-read : (c : tie.After-number-of) → numberOf (before space (after space (now (c .before .before .before .before .before .before .before .before .args .line)))) ≡ numberIn (c .number-of .result)
+number-read : (c : tie.After-number-of) → numberOf (before space
+    (after space (now (c .before .before .before .before .before .before .before .before .args .line)))) ≡ numberIn (c .number-of .result)
 number-read c = sym (c .number-of .ensures ∙ ap numberOf (c .before .before3 .ensures ∙ ap (before space) (c .before .before .before .before .after .ensures)))
 
 -- ----
@@ -72,9 +74,12 @@ returns-2 c =
     let a = c .before .before .before .before .before .before .before .before .before .before .before .before .before .before .before .before .before .before .before .args in
     let verb = verb-read read ∙ ap verbIn (c .before .before .before .before .before .before .before .before .before .named .given .1) in
     let number = number-read read ∙ ap numberIn (c .before .before .before .before .before .before .number .given .1) in
-    let line = parse-third (now (a .line)) (short read) _ _ _ verb number (c .before .before .before .before .after2 .ensures ∙ ap (after space) (c .before .before .before .before .before .before .before .before .before .before .before .before .before .before .before .after .ensures)) in
+    let line = parse-third (now (a .line)) (short read) _ _ _ verb number
+    (c .before .before .before .before .after2 .ensures
+    ∙ ap (after space) (c .before .before .before .before .before .before .before .before .before .before .before .before .before .before .before .after .ensures)) in
     let answer : c .before .before .third-field .result ≡ told (parse (now (a .line))) = rw line (c .before .before .third-field .ensures .0) in
-    let left : c .before .before .third-field .last .1 .1 .1 .0 ≡ bufferAfter (now (a .buffer)) (parse (now (a .line))) = rw line (c .before .before .third-field .ensures .1) in
+    let left : c .before .before .third-field .last .1 .1 .1 .0 ≡ bufferAfter (now (a .buffer)) (parse (now (a .line))) =
+    rw line (c .before .before .third-field .ensures .1) in
     (told-line (now (a .buffer)) (c .before .before .before .before .before .before .before .before .before .before .before .before .before .before .before .before .before .before .before .pre) (now (a .line)) _ _ answer left, (answer, left))
 
 returns-3 : tie.Need-returns-3
@@ -82,12 +87,14 @@ returns-3 c =
     let read = c .before .before .before .before .before in
     let verb = verb-read read ∙ ap verbIn (c .before .before .before .named .given .1) in
     let number = number-read read ∙ ap numberIn (c .enum-told .given .1) in
-    rw (parse-no-number (now (c .before .before .before .before .before .before .before .before .before .before .before .before .before .args .line)) (short read) _ verb number) (refl, (refl, refl))
+    rw (parse-no-number (now (c .before .before .before .before .before .before .before .before .before .before .before .before .before .args .line))
+    (short read) _ verb number) (refl, (refl, refl))
 
 returns-4 : tie.Need-returns-4
 returns-4 c =
     let read = c .before .before in
-    rw (parse-no-verb (now (c .before .before .before .before .before .before .before .before .before .before .args .line)) (short read) (verb-read read ∙ ap verbIn (c .enum-told2 .given .1))) (refl, (refl, refl))
+    rw (parse-no-verb (now (c .before .before .before .before .before .before .before .before .before .before .args .line)) (short read)
+    (verb-read read ∙ ap verbIn (c .enum-told2 .given .1))) (refl, (refl, refl))
 
 pub parse-into-spec : {M : Type 1} → statement M
 parse-into-spec =

@@ -13,7 +13,8 @@ use Rattle.script.proofs.number.number_of.Statement.{statement}
 use Rattle.script.proofs.number.number_of.Tie as tie
 
 abbrev Inv-loop : tie.InvT-loop
-Inv-loop s value₀ i₀ value i = (i ≤ length s) × (value ≤ mostNumber) × (plainStart s ≡ true) × (allDigits (drop i s) ≡ allDigits s) × (valueFrom value (drop i s) ≡ valueFrom 0 s)
+Inv-loop s value₀ i₀ value i = (i ≤ length s) × (value ≤ mostNumber) × (plainStart s ≡ true) × (allDigits (drop i s) ≡ allDigits s)
+    × (valueFrom value (drop i s) ≡ valueFrom 0 s)
 
 abbrev μ-loop : tie.MeasureT-loop
 μ-loop s value₀ i₀ value i = length s - i

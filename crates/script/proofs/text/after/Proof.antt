@@ -42,7 +42,8 @@ returns-2 : tie.Need-returns-2
 returns-2 c =
     let s = c .before .before .before .before .args in
     let i = c .before .before .find .result in
-    part-to-end (now (s .s)) i ∙ drop-of-length-le (now (s .s)) {i = i} (omega arith) ∙ sym (after-missing (s .b) (now (s .s)) (omega (arith, c .before .before .find .ensures)))
+    part-to-end (now (s .s)) i ∙ drop-of-length-le (now (s .s)) {i = i} (omega arith)
+    ∙ sym (after-missing (s .b) (now (s .s)) (omega (arith, c .before .before .find .ensures)))
 
 pub after-spec : {M : Type 1} → statement M
 after-spec =

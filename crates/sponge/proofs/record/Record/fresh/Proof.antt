@@ -39,9 +39,17 @@ returns : tie.Need-returns
 unfolding fresh initial
 returns c =
     let a = c .before .before .before .before .before .before .before .args in
-    let keyed : c .before .xor-bytes .result ≡ xorFrom 8 (take (c .before .before .before .before .shorter .result) (now (a .key))) (c .before .before .before .start-word .result ∷ 0 ∷ 0 ∷ 0 ∷ 0 ∷ []) =
+    let keyed : c .before .xor-bytes .result ≡ xorFrom 8 (take (c .before .before .before .before .shorter .result) (now (a .key)))
+    (c .before .before .before .start-word .result ∷ 0 ∷ 0 ∷ 0 ∷ 0 ∷ []) =
     c .before .xor-bytes .ensures in
-    rw (c .run .ensures, keyed, c .before .before .before .start-word .ensures, c .before .before .before .before .shorter .ensures, c .before .before .before .before .before .key-length .ensures, take-min (row (a .mode) .keyLength) (now (a .key)))
+    rw (
+      c .run .ensures,
+      keyed,
+      c .before .before .before .start-word .ensures,
+      c .before .before .before .before .shorter .ensures,
+      c .before .before .before .before .before .key-length .ensures,
+      take-min (row (a .mode) .keyLength) (now (a .key)),
+    )
 
 pub fresh-spec : {M : Type 1} → statement M
 fresh-spec =
