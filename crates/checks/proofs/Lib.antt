@@ -1,2 +1,3 @@
+-- Crate `checks`: its laws.
 pub mod Checks
 pub mod Buffers

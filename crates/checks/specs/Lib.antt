@@ -1,2 +1,3 @@
+-- Crate `checks`: its definitions.
 pub mod Checks
 pub mod Buffers

@@ -1,3 +1,4 @@
+-- Crate `script`: its laws.
 pub mod Texts
 pub mod Numbers
 pub mod Decimals

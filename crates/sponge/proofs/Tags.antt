@@ -42,7 +42,7 @@ same-equal xs ys h = go (List-discrete ℕ-discrete xs ys) h
     go (yes p) e = p
     go (no n) e = absurd (false≢true e)
 
--- the comparison of a tag is equality of lists, both ways: it passes where the tag is as many first bytes of the block, and nowhere else
+-- for the reader: the comparison of a tag is equality of lists, both ways: it passes where the tag is as many first bytes of the block, and nowhere else
 pub tag-both-ways : (tag : List ℕ) (r : Record)
     → (tagMatches tag r ≡ true → tag ≡ take (length tag) (block r)) × (tag ≡ take (length tag) (block r) → tagMatches tag r ≡ true)
 unfolding tagMatches

@@ -1,2 +1,3 @@
+-- Crate `state`: its laws.
 pub mod Words
 pub mod Copying

@@ -111,7 +111,7 @@ xored-from (b ∷ bs) k m ws l h =
 pub xored-block : (bs ws : List ℕ) → length bs ≤ 8 * length ws → Bytes bs → (m : ℕ) → byteAt (xorFrom 0 bs ws) m ≡ bitXor (byteAt ws m) (getD bs m 0)
 xored-block bs ws l h m = xored-from bs 0 m ws (omega arith) h ∙ rw (le-leb 0 m (omega arith), sub-zero)
 
--- byte 0 is the top byte of the first word, and byte 39 the low byte of the fifth
+-- for the reader: byte 0 is the top byte of the first word, and byte 39 the low byte of the fifth
 pub first-byte : (ws : List ℕ) → byteAt ws 0 ≡ getD ws 0 0 / 2 ^ 56 % 256
 unfolding byteAt weight
 first-byte ws = refl
@@ -120,7 +120,7 @@ pub last-byte : (ws : List ℕ) → byteAt ws 39 ≡ getD ws 4 0 % 256
 unfolding byteAt weight
 last-byte ws = rw div-one
 
--- the lowest bit of the fifth word is that of byte 39
+-- for the reader: the lowest bit of the fifth word is that of byte 39
 pub flipped-byte : (ws : List ℕ) (m : ℕ) → length ws ≡ 5 → byteAt (xorWord 4 1 ws) m ≡ bitXor (byteAt ws m) (cond (eqb 39 m) 1 0)
 unfolding xorAt weight
 flipped-byte ws m e = xored-byte 39 1 m ws (omega arith) (lit< tt)

@@ -1,3 +1,5 @@
+-- `day::turn` meets its contract.
+-- Assumes nothing.
 use native.Mathlib.Omega.{arith}
 use borrow.Author.Needs.{needs}
 use Rattle.hub.specs.Hub.{onHub}

@@ -1,3 +1,5 @@
+-- `hub::draw` meets its contract.
+-- Assumes nothing.
 use mathlib.Core.Path.{sym, ap, _∙_}
 use Rattle.sponge.specs.declared.record.Record.{Record}
 use Rattle.calls.specs.Call.{Step}

@@ -1,3 +1,5 @@
+-- `hub::feed` meets its contract.
+-- Assumes nothing.
 use mathlib.Core.Path.{sym, ap, _∙_}
 use Rattle.hub.specs.declared.Hub.{Hub}
 use Rattle.hub.specs.declared.places.Located.{Located}

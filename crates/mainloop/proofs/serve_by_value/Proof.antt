@@ -1,3 +1,5 @@
+-- `mainloop::serve_by_value` meets its contract.
+-- Assumes nothing.
 use mathlib.Core.Path.{_≡_, ap, ap₂, _∙_}
 use Prim.Native.Nat.{ℕ, _-_, _≤_}
 use native.Mathlib.Nat.{sub-zero}

@@ -1,4 +1,4 @@
--- `more` meets its contract.
+-- `rampscript::more` meets its contract.
 -- Assumes nothing.
 use borrow.Author.Tests.{eq-eqb, ne-eqb, not-true, not-false}
 use Rattle.rampscript.proofs.more.Statement.{statement}

@@ -1,4 +1,4 @@
--- `run_script` meets its contract.
+-- `rampscript::run_script` meets its contract.
 -- Assumes nothing.
 use borrow.Author.Tests.{not-true, not-false}
 use Rattle.rampscript.proofs.Turns.{ending-none, ending-early, ending-whole}

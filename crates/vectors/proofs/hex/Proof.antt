@@ -1,4 +1,4 @@
--- `vectors::hex` meets its contract. The loop's invariant: the first digits are those of the first bytes.
+-- `vectors::hex` meets its contract: digits that fill the buffer are all that it holds.
 -- Assumes nothing.
 use mathlib.Core.Path.{_≡_, refl, sym, ap, _∙_}
 use Prim.Native.Nat.{_*_, _-_, _≤_}

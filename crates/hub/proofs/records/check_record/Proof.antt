@@ -1,3 +1,5 @@
+-- `hub::records::check_record` meets its contract.
+-- Assumes nothing.
 use mathlib.Core.Bool.{false, not}
 use mathlib.Core.Path.{_≡_, sym, ap, ap₂, _∙_}
 use borrow.Author.Tests.{eq-eqb, ne-eqb}

@@ -1,3 +1,5 @@
+-- `hub::records::close_record` meets its contract.
+-- Assumes nothing.
 use mathlib.Core.Path.{sym, ap, ap₂, _∙_}
 use Rattle.sponge.specs.declared.record.Record.{Record}
 use Rattle.calls.specs.declared.Answer.{Answer}

@@ -1,3 +1,5 @@
+-- `hub::records::draw_record` meets its contract.
+-- Assumes nothing.
 use mathlib.Core.Bool.{false}
 use mathlib.Core.Path.{_≡_, sym, ap, ap₂, _∙_}
 use Prim.Native.Nat.{ℕ, _+_, _≤_}

@@ -1,3 +1,5 @@
+-- `hub::records::feed_record` meets its contract.
+-- Assumes nothing.
 use mathlib.Core.Bool.{false, not}
 use mathlib.Core.Path.{_≡_, sym, ap, _∙_}
 use Prim.Native.Nat.{ℕ, _+_}

@@ -1,4 +1,4 @@
--- `call` meets its contract, for each verb.
+-- `interpreter::call::call` meets its contract, for each verb.
 -- Assumes nothing.
 use Rattle.interpreter.proofs.Calling.{open-called, feed-called, draw-called, check-called, close-called, sum-called}
 use borrow.Author.Needs.{needs}

@@ -1,4 +1,4 @@
--- `advance` meets its contract, in each of its ways out.
+-- `interpreter::chunk::advance` meets its contract, in each of its ways out.
 -- Assumes nothing.
 use mathlib.Core.Path.{sym}
 use Prim.Native.Nat.{_+_, _-_, _≤_, _<_}

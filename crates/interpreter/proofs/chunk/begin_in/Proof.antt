@@ -1,4 +1,4 @@
--- `begin_in` meets its contract.
+-- `interpreter::chunk::begin_in` meets its contract.
 -- Assumes nothing.
 use native.Mathlib.Omega.{arith}
 use denote.Ref.{now}

@@ -1,4 +1,4 @@
--- `fill_in` meets its contract. The loop: filling what is left goes on from what is in the buffer.
+-- `interpreter::chunk::fill_in` meets its contract. The loop: filling what is left goes on from what is in the buffer.
 -- Assumes nothing.
 use Prim.Native.Nat.{_-_}
 use native.Mathlib.Omega.{arith}

@@ -1,4 +1,4 @@
--- `finish` meets its contract.
+-- `interpreter::chunk::finish` meets its contract.
 -- Assumes nothing.
 use mathlib.Core.Path.{sym, _∙_}
 use Rattle.interpreter.proofs.Ending.{finish-complete, finish-supplied}

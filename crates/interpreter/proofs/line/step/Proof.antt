@@ -1,4 +1,4 @@
--- `step` meets its contract, by what the line means. A call is made with the part of the buffer that the line was read into.
+-- `interpreter::line::step` meets its contract, by what the line means. A call is made with the part of the buffer that the line was read into.
 -- Assumes nothing.
 use mathlib.Core.Path.{_≡_, sym, ap, _∙_}
 use Prim.Native.Nat.{_≤_}

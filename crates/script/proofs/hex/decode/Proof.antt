@@ -1,4 +1,5 @@
--- The invariant: what is left of the text, decoded, goes behind the bytes that are stored.
+-- `script::hex::decode` meets its contract. The loop's invariant: what is left of the text, decoded, goes behind the bytes that are stored.
+-- Assumes nothing.
 use mathlib.Core.Path.{_≡_, refl}
 use Prim.Native.Nat.{_≤_, _-_, _*_, _/_}
 use native.Mathlib.Omega.{arith}

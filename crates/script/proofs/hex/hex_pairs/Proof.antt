@@ -1,4 +1,5 @@
--- The invariant: the answer so far, and that what is left are digits, is the whole answer.
+-- `script::hex::hex_pairs` meets its contract. The loop's invariant: the answer so far, and that what is left are digits, is the whole answer.
+-- Assumes nothing.
 use mathlib.Core.Path.{_≡_, sym, ap, _∙_}
 use mathlib.Core.Logic.{⊎-elim}
 use mathlib.Core.Bool.{Bool, _&&_}

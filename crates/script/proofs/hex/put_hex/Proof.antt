@@ -1,4 +1,5 @@
--- The invariant: the first i bytes are written.
+-- `script::hex::put_hex` meets its contract. The loop's invariant: the first i bytes are written.
+-- Assumes nothing.
 use Prim.Native.Nat.{_≤_, _-_}
 use native.Mathlib.Omega.{arith}
 use lib.ListN.{length, take}

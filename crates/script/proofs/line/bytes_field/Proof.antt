@@ -1,3 +1,5 @@
+-- `script::line::bytes_field` meets its contract.
+-- Assumes nothing.
 use mathlib.Core.Path.{refl, sym, ap, _∙_}
 use native.Mathlib.Omega.{arith}
 use borrow.Author.Needs.{needs}

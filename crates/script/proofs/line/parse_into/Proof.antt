@@ -1,3 +1,5 @@
+-- `script::line::parse_into` meets its contract.
+-- Assumes nothing.
 use mathlib.Core.Path.{_≡_, refl, sym, ap, _∙_}
 use Prim.Native.Nat.{_≤_}
 use lib.ListN.{length}

@@ -1,4 +1,5 @@
--- The measure is the number itself: the number without its last digit is less.
+-- `script::number::put_decimal` meets its contract. The measure is the number itself: the number without its last digit is less.
+-- Assumes nothing.
 use mathlib.Core.Path.{_∙_}
 use Prim.Native.Nat.{ℕ, _<_}
 use native.Mathlib.Omega.{arith}

@@ -1,4 +1,5 @@
--- The invariant: the digits left, behind the value so far, spell the number.
+-- `script::number::number_of` meets its contract. The loop's invariant: the digits left, behind the value so far, spell the number.
+-- Assumes nothing.
 use mathlib.Core.Path.{_≡_, refl, sym, ap, _∙_}
 use mathlib.Core.Bool.{true}
 use Prim.Native.Nat.{_≤_, _-_, _+_, _*_}

@@ -1,4 +1,5 @@
--- The invariant: what is left of the two texts is the same if and only if they are.
+-- `script::text::same` meets its contract. The loop's invariant: the first i bytes of the two texts are equal.
+-- Assumes nothing.
 use mathlib.Core.Path.{_≡_, refl, sym, _∙_}
 use Prim.Native.Nat.{_≤_, _-_}
 use native.Mathlib.Omega.{arith}
