@@ -13,11 +13,11 @@ use Rattle.mode.specs.declared.Mode.the-variants.{Prf}
 use Rattle.mode.specs.declared.Named.{Named}
 use Rattle.mode.specs.declared.Named.the-variants.{Is, NoMode}
 use Rattle.mode.specs.Mode.{named}
-use Rattle.sponge.specs.Record.{same}
 use Rattle.calls.specs.declared.Answer.{Answer}
 use Rattle.calls.specs.Answer.{counted, judged}
 use Rattle.checks.specs.Checks.{OneCheck, checked}
 use Rattle.checks.specs.Buffers.{written}
+use Rattle.checks.specs.Equality.{same}
 use Rattle.calls.specs.Checks.{Standing, mostOpen, openChecks, ticketChecks, feedOwn, feedChecks, drawOwn, drawChecks, checkOwn, checkChecks}
 use Rattle.calls.specs.Call.{Call, Open, Feed, Draw, Check, Close, Sum, Response, Step, step, refuse, Event, events}
 use Rattle.calls.specs.Machine.{Entry, Machine, emptyMachine, runsOf, outputOf, newEntry, afterFeed, afterDraw, afterClose, entryOf, standingOf, put}

@@ -10,10 +10,9 @@ use Rattle.mode.specs.declared.Mode.{Mode}
 use Rattle.mode.specs.declared.Mode.the-variants.{Mac}
 use Rattle.mode.specs.Mode.{row, named}
 use Rattle.sponge.specs.Sponge.{ceiling, start, oneShot, runsFeeding, runsEnded}
-use Rattle.sponge.specs.Record.{same}
 use Rattle.calls.specs.declared.Answer.{Answer}
 use Rattle.calls.specs.Answer.{refused, opened, counted, judged, summed}
-use Rattle.checks.specs.Buffers.{written}
+use Rattle.checks.specs.Equality.{same}
 use Rattle.calls.specs.Checks.{openChecks, ticketChecks, feedOwn, feedChecks, drawOwn, drawChecks, checkOwn, checkChecks}
 use Rattle.calls.specs.Call.{Call, Open, Feed, Draw, Check, Close, Sum, Event, events}
 use Rattle.calls.specs.Keyed.{find, total}
@@ -119,13 +118,6 @@ checking =
 pub boundaries : Answered script × Answered opening × Answered feeding × Answered drawing × Answered checking
 unfolding events machine emptyMachine openMachine openChecks named row admit newEntry runsOf formula runsFeeding runsEnded ceiling start openCount total feedMachine drawMachine checkMachine closeMachine ticketChecks feedChecks feedOwn drawChecks drawOwn checkChecks checkOwn standingOf entryOf placeOf find afterFeed afterDraw afterClose put sumMachine outputOf
 boundaries = (refl, refl, refl, refl, refl)
-
--- bytes written into a buffer
-pub writing : (written (1 ∷ 2 ∷ 3 ∷ 4 ∷ 5 ∷ []) 1 (8 ∷ 9 ∷ []) ≡ 1 ∷ 8 ∷ 9 ∷ 4 ∷ 5 ∷ [])
-    × (written (1 ∷ 2 ∷ 3 ∷ []) 3 [] ≡ 1 ∷ 2 ∷ 3 ∷ [])
-    × (written (1 ∷ 2 ∷ []) 0 (8 ∷ 9 ∷ []) ≡ 8 ∷ 9 ∷ [])
-unfolding written
-writing = (refl, refl, refl)
 
 -- each answer, field by field: what is not said is 0
 pub answers : (refused 5 ≡ record { refusal = 5; ticket = 0; runs = 0; passed = false; sum = 0 })

@@ -10,12 +10,12 @@ use borrow.Author.Tests.{lt-ltb, le-ltb}
 use lib.ListN.{length, getD, take, drop}
 use lib.Seq.{length-take-le, take-at}
 use Rattle.checks.specs.Buffers.{written}
+use Rattle.checks.specs.Equality.{same}
+use Rattle.checks.proofs.Equality.{equal-same, same-equal}
 use Rattle.checks.proofs.Buffers.{length-written, read-written, before-written, after-written}
 use Rattle.mode.specs.declared.Mode.the-variants.{Mac}
 use Rattle.mode.specs.Mode.{row}
 use Rattle.sponge.specs.Sponge.{oneShot}
-use Rattle.sponge.specs.Record.{same}
-use Rattle.sponge.proofs.Tags.{equal-same, same-equal}
 use Rattle.frame.specs.declared.Judged.{Judged}
 use Rattle.frame.specs.Frame.{tagFor, tagIn, frameRefusal, sealAnswer, sealAfter, verifyAnswer}
 use Rattle.frame.proofs.Laws.{refused-2, refused-3, refused-none, seal-refused, seal-kept, verify-refused, seal-wrote, verify-done, length-tagFor}

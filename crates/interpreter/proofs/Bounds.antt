@@ -8,7 +8,8 @@ use native.Mathlib.Omega.{arith}
 use lib.Dec.{eqb, leb, ltb}
 use lib.ListN.{length, take, length-append}
 use borrow.Author.Tests.{eqb-true, leb-true, ltb-true}
-use Rattle.script.specs.Text.{newline, same}
+use Rattle.checks.specs.Equality.{same}
+use Rattle.script.specs.Text.{newline}
 use Rattle.script.specs.Line.{longestLine, parse}
 use Rattle.interpreter.specs.declared.Session.{Session}
 use Rattle.interpreter.specs.Script.{Meaning, theNames, aCall, aFault, meaning, names, mostLines, asCall}

@@ -10,11 +10,12 @@ use lib.Dec.{eqb, leb, ltb}
 use lib.ListN.{length, take, length-set}
 use lib.Seq.{take-suc-set, length-take-le}
 use borrow.Author.Tests.{ne-eqb, eqb-true, eqb-false, ltb-true, ltb-false, lt-leb}
+use Rattle.checks.specs.Equality.{same}
+use Rattle.checks.proofs.Equality.{other-same}
 use Rattle.calls.specs.Call.{Call, events}
 use Rattle.hub.specs.declared.Hub.{Hub}
 use Rattle.hub.specs.Hub.{emptyHub, onHub}
-use Rattle.script.specs.Text.{newline, same}
-use Rattle.script.proofs.Texts.{same-lengths}
+use Rattle.script.specs.Text.{newline}
 use Rattle.script.specs.Number.{malformed}
 use Rattle.script.specs.Line.{longestLine, fields, parse}
 use Rattle.script.specs.Input.{inFront, lines}
@@ -65,7 +66,7 @@ begin-longer (a ∷ h) b ls =
 -- ---- a line that is too long
 
 long-not-names : (s : List ℕ) → longestLine < length s → same s names ≡ false
-long-not-names s h = same-lengths s names (λ e. omega (arith, e))
+long-not-names s h = other-same s names (λ e. omega (arith, ap length e))
 
 long-malformed : (k : ℕ) (s : List ℕ) → longestLine < length s → meaning k s ≡ aFault
 unfolding meaning parse

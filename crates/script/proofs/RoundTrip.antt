@@ -9,14 +9,16 @@ use native.Mathlib.Omega.{arith}
 use lib.Dec.{eqb, leb}
 use lib.ListN.{length, getD, length-append}
 use borrow.Author.Tests.{eq-eqb, ne-eqb, le-leb, leb-true, eqb-true}
+use Rattle.checks.specs.Equality.{same}
+use Rattle.checks.proofs.Equality.{same-equal}
 use Rattle.script.specs.declared.line.Verb.{Verb}
 use Rattle.script.specs.declared.line.Verb.the-variants.{Open, Feed, Draw, Check, Close, Sum}
-use Rattle.script.specs.Text.{space, dash, same, before, after}
+use Rattle.script.specs.Text.{space, dash, before, after}
 use Rattle.script.specs.Number.{Reading, found, malformed, mostNumber, isDigit, allDigits, plainStart, valueFrom, isNumber, numberOf, decimal}
-use Rattle.script.specs.Hex.{hexPairs, decoded, hexOf, bytesText, glyph}
+use Rattle.script.specs.Hex.{hexPairs, decoded, hexOf, bytesText, digitOf}
 use Rattle.script.specs.Line.{Line, Field, bytes, count, longestLine, mostBytes, mostCount, name, fieldText, render, AllBytes, SomeBytes, NoBytes, ACount, FieldFits, Valid, verbOf, isDash, isHex, bytesOf, noBytesOf, countValue, isCount, countOf, fieldOf, withField, withVerb, fields, parse}
 use Rattle.script.specs.Laws.{PrintedLines}
-use Rattle.script.proofs.Texts.{and-left, and-right, and-false, same-eq}
+use Rattle.script.proofs.Texts.{and-left, and-right, and-false}
 use Rattle.script.proofs.Decimals.{decimal-digits, decimal-read, decimal-long, spelled-back, digit-range}
 use Rattle.script.proofs.HexDigits.{hex-length, bytes-text-long, decoded-length, hex-is-pairs, hex-decoded, decoded-hex, decoded-bytes}
 use Rattle.script.proofs.Lines.{bytes-text-some, parse-third, hex-short, hex-pairs}
@@ -75,7 +77,7 @@ dash-read = refl
 
 hex-no-dash : (b : ℕ) (bs : List ℕ) → isDash (hexOf (b ∷ bs)) ≡ false
 unfolding hexOf
-hex-no-dash b bs = long-no-dash (glyph (b / 16)) (glyph (b % 16)) (hexOf bs)
+hex-no-dash b bs = long-no-dash (digitOf (b / 16)) (digitOf (b % 16)) (hexOf bs)
 
 bytes-read : (bs : List ℕ) → length bs ≤ mostBytes → AllBytes bs → bytesOf (bytesText bs) ≡ found (bytes bs)
 unfolding bytesOf bytesText isHex
@@ -218,7 +220,7 @@ named : (s : List ℕ) (u v : Verb) (r : Reading Verb) → (r ≡ found v → s 
 named s u v r other e = go (same s (name u)) refl e
   where
     go : (t : Bool) → same s (name u) ≡ t → cond t (found u) r ≡ found v → s ≡ name v
-    go true p q = let w : u ≡ v = cc in same-eq s (name u) p ∙ ap name w
+    go true p q = let w : u ≡ v = cc in same-equal s (name u) p ∙ ap name w
     go false p q = other q
 
 verb-back : (s : List ℕ) (v : Verb) → verbOf s ≡ found v → s ≡ name v
@@ -254,7 +256,7 @@ hex-some s e = leb-true _ _ (and-left (leb 1 (length s)) (leb (length s) (2 * mo
 
 dash-text : (s : List ℕ) → isDash s ≡ true → s ≡ fieldText (bytes [])
 unfolding isDash fieldText bytesText
-dash-text s e = same-eq s (dash ∷ []) e
+dash-text s e = same-equal s (dash ∷ []) e
 
 none-back : (s : List ℕ) (f : Field) → noBytesOf s ≡ found f → (s ≡ fieldText f) × NoBytes f
 unfolding noBytesOf

@@ -8,13 +8,14 @@ use Prim.Native.Nat.{ℕ, _+_, _-_, _/_, _^_, _≤_, _<_}
 use native.Mathlib.Omega.{arith}
 use native.Mathlib.Nat.{zero-add, zero-div, zero-mod, le-refl}
 use lib.ListN.{length, take, drop}
+use Rattle.checks.specs.Equality.{same}
 use Rattle.mode.specs.declared.Mode.{Mode}
 use Rattle.mode.specs.declared.Mode.the-variants.{Prf, Mac, Hash, Xof}
 use Rattle.sponge.specs.declared.record.Record.{Record}
 use Rattle.mode.specs.Mode.{Row, row}
 use Rattle.sponge.specs.Sponge.{ceiling, start, absorbMessage, output, oneShot, runsFeeding, runsEnded}
 use Rattle.sponge.specs.Record.{sum64, withCore, withFed, withDrawn, withFeeding, afterRun, feedBytes, endFeeding, drawnBytes, afterDrawing, fresh, absorbed}
-use Rattle.sponge.specs.Record.{finished, nextBytes, squeezed, block, same, tagMatches}
+use Rattle.sponge.specs.Record.{finished, nextBytes, squeezed, block, tagMatches}
 use Rattle.sponge.specs.Streaming.{joined, total, feedParts, drawnParts, afterParts, StreamingTheorem, absorbedParts, nextParts, squeezedParts, StreamingCallsTheorem}
 use Rattle.sponge.proofs.Core.{sum64-lt, sum64-sum64, sum64-fits, sum64-zero, withCoreOf}
 use Rattle.sponge.proofs.Feeding.{feedBytes-append, feeding-ended, feeding-counted}

@@ -5,10 +5,11 @@ use mathlib.Core.Path.{_≡_, sym, ap, _∙_}
 use mathlib.Core.List.{List}
 use Prim.Native.Nat.{ℕ}
 use lib.ListN.{length, take}
+use Rattle.checks.specs.Equality.{same}
 use Rattle.mode.specs.declared.Mode.the-variants.{Mac}
 use Rattle.mode.specs.Mode.{row}
 use Rattle.sponge.specs.Sponge.{oneShot}
-use Rattle.sponge.specs.Record.{same, fresh, absorbed, finished, tagMatches}
+use Rattle.sponge.specs.Record.{fresh, absorbed, finished, tagMatches}
 use Rattle.sponge.proofs.Streaming.{calls-block}
 use borrow.Author.Needs.{needs}
 use Rattle.bench.proofs.bench_tag.Statement.{statement}

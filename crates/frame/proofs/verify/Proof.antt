@@ -8,7 +8,8 @@ use native.Mathlib.Omega.{arith}
 use borrow.Author.Needs.{needs}
 use lib.ListN.{length, take, drop}
 use lib.Seq.{length-take-le}
-use Rattle.sponge.specs.Record.{same, tagMatches}
+use Rattle.checks.specs.Equality.{same}
+use Rattle.sponge.specs.Record.{tagMatches}
 use Rattle.frame.specs.Frame.{tagFor, tagIn, frameRefusal, frameRuns}
 use Rattle.frame.proofs.Laws.{has-room, verify-refused, verify-done, fedBody, verdict, judging-runs}
 use Rattle.frame.proofs.verify.Statement.{statement}

@@ -7,7 +7,7 @@ use lib.ListN.{length, take}
 use lib.Seq.{length-take-le}
 use borrow.Author.Needs.{needs}
 use Rattle.prf_short.proofs.Refusals.{well-lent, short-done}
-use Rattle.vectors.specs.Text.{hexOf}
+use Rattle.script.specs.Hex.{hexOf}
 use Rattle.vectors.proofs.short_digits.Statement.{statement}
 use Rattle.vectors.proofs.short_digits.Tie as tie
 

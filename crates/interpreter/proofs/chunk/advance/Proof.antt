@@ -84,17 +84,17 @@ add-next c = omega (arith, more c)
 shared-slice-read-if3 : tie.Need-shared-slice-read-if3
 shared-slice-read-if3 c = more (c .before)
 
-add-least : tie.Need-add-least
-add-least c = omega (arith, room (c .before .before .before .before .before))
+add-place-in : tie.Need-add-place-in
+add-place-in c = omega (arith, room (c .before .before .before .before .before .before))
 
-least-requires : tie.Need-least-requires
-least-requires c κs = search needs
+place-in-requires-3 : tie.Need-place-in-requires-3
+place-in-requires-3 c κs = search needs
 
 slice-reshare-prefix-step : tie.Need-slice-reshare-prefix-step
 slice-reshare-prefix-step c = search needs
 
 slice-aggregate-step : tie.Need-slice-aggregate-step
-slice-aggregate-step c = sym (length-take-le _ _ (omega (arith, c .before .least .ensures)))
+slice-aggregate-step c = sym (length-take-le _ _ (omega (arith, c .before .place-in3 .ensures)))
 
 step-requires : tie.Need-step-requires
 step-requires c κs = search needs
@@ -107,16 +107,16 @@ same-length-5 c = search needs
 
 returns-3 : tie.Need-returns-3
 returns-3 c =
-    let a = c .before .before .before .before .before .before .before .before .before .before .before .before .before .before .before .before .before .before .before .args in
+    let a = c .before .before .before .before .before .before .before .before .before .before .before .before .before .before .before .before .before .before .before .before .args in
     advance-line (a .session) (now (a .line)) (now (a .chunk)) (a .at) (now (a .out)) (a .from)
-    (c .before .before .before .before .before .before .before .before .before .before .before .before .before .before .before .before .before .before .before .pre .0) (c .before .before .before .before .before .before .before .before .before .before .before .before .before .before .before .before .before .before .before .pre .1)
-    (not-false _ (c .before .before .before .before .before .before .before .before .before .before .before .before .before .before .if1 .left))
-    (c .before .before .before .before .before .before .before .before .before .before .before .before .take-line .result)
-    (c .before .before .before .before .before .before .before .before .before .before .before .before .take-line .last .1 .1 .0)
-    (c .before .before .before .before .before .before .before .before .before .before .before .before .take-line .ensures .0)
-    (c .before .before .before .before .before .before .before .before .before .before .before .before .take-line .ensures .1)
-    (more (c .before .before .before .before .before .before .before .before .before)) _ _ _
-    (c .before .before .before .before .before .before .before .if3 .taken) (c .before .before .before .before .before .before .least .ensures)
+    (c .before .before .before .before .before .before .before .before .before .before .before .before .before .before .before .before .before .before .before .before .pre .0) (c .before .before .before .before .before .before .before .before .before .before .before .before .before .before .before .before .before .before .before .before .pre .1)
+    (not-false _ (c .before .before .before .before .before .before .before .before .before .before .before .before .before .before .before .if1 .left))
+    (c .before .before .before .before .before .before .before .before .before .before .before .before .before .take-line .result)
+    (c .before .before .before .before .before .before .before .before .before .before .before .before .before .take-line .last .1 .1 .0)
+    (c .before .before .before .before .before .before .before .before .before .before .before .before .before .take-line .ensures .0)
+    (c .before .before .before .before .before .before .before .before .before .before .before .before .before .take-line .ensures .1)
+    (more (c .before .before .before .before .before .before .before .before .before .before)) _ _ _
+    (c .before .before .before .before .before .before .before .before .if3 .taken) (c .before .before .before .before .before .before .place-in3 .ensures)
     (c .before .before .before .step .ensures)
 
 stop-requires : tie.Need-stop-requires
@@ -159,8 +159,8 @@ advance-spec =
     returns-2
     add-next
     shared-slice-read-if3
-    add-least
-    least-requires
+    add-place-in
+    place-in-requires-3
     slice-reshare-prefix-step
     slice-aggregate-step
     step-requires

@@ -7,9 +7,9 @@ use denote.Ref.{now}
 use lib.ListN.{length, drop, length-append}
 use lib.Seq.{length-take-le, take-at}
 use Rattle.script.specs.Line.{parse}
-use Rattle.script.specs.Parsed.{lineIn, told}
+use Rattle.script.specs.Parsed.{lineIn, parsedOf}
 use Rattle.script.proofs.Texts.{wrote-none}
-use Rattle.script.proofs.Told.{call-size, buffer-length}
+use Rattle.script.proofs.Parsed.{call-size, buffer-length}
 use Rattle.interpreter.proofs.Calling.{lent-length, answer-step}
 use Rattle.interpreter.proofs.Meaning.{step-names, step-no-names, step-too-many, step-call, step-malformed}
 use borrow.Author.Needs.{needs}
@@ -20,7 +20,7 @@ use Rattle.interpreter.proofs.line.step.Tie as tie
 fits : (c : tie.After-verb) → c .verb .given .0 .1 .1 .0 ≤ length (c .before .before .parse-line .last .1 .0)
 fits c =
     let line = now (c .before .before .before .before .before .before .before .before .args .line) in
-    let answer : c .before .before .parse-line .result ≡ told (parse line) = c .before .before .parse-line .ensures .1 .0 in
+    let answer : c .before .before .parse-line .result ≡ parsedOf (parse line) = c .before .before .parse-line .ensures .1 .0 in
     let room = ap length (c .before .before .parse-line .ensures .1 .1) ∙ buffer-length _ (parse line) in
     omega (arith, call-size line _ _ _ (sym answer ∙ c .verb .given .1), room)
 
@@ -98,12 +98,12 @@ array-share-prefix-bytes c = omega (
   part (c .before),
 )
 
-slice-aggregate-tell : tie.Need-slice-aggregate-tell
-slice-aggregate-tell c = lent-length (c .before .before .before .before .before .before .verb .given .0 .1 .1 .0) (c .before .before .call .last .1 .1 .1 .0) _
-    (part (c .before .before))
+slice-aggregate-write-line : tie.Need-slice-aggregate-write-line
+slice-aggregate-write-line c = lent-length (c .before .before .before .before .before .before .verb .given .0 .1 .1 .0)
+    (c .before .before .call .last .1 .1 .1 .0) _ (part (c .before .before))
 
-tell-requires : tie.Need-tell-requires
-tell-requires c κs = search needs
+write-line-requires : tie.Need-write-line-requires
+write-line-requires c κs = search needs
 
 go-on-requires-2 : tie.Need-go-on-requires-2
 go-on-requires-2 c κs = search needs
@@ -129,7 +129,7 @@ returns-4 c =
     (c .before .before .before .before .before .before .before .before .call .last .1 .1 .1 .0)
     (c .before .before .before .before .before .before .before .before .call .ensures) _ _ _ _ _
     (take-at (c .before .before .before .before .before .before .before .before .call .last .1 .1 .1 .0) _ _
-    (part (c .before .before .before .before .before .before .before .before))) (c .go-on2 .ensures) (c .before .before .before .before .tell .ensures))
+    (part (c .before .before .before .before .before .before .before .before))) (c .go-on2 .ensures) (c .before .before .before .before .write-line .ensures))
 
 same-length-5 : tie.Need-same-length-5
 same-length-5 c = search needs
@@ -164,8 +164,8 @@ step-spec =
     slice-aggregate-call
     call-requires
     array-share-prefix-bytes
-    slice-aggregate-tell
-    tell-requires
+    slice-aggregate-write-line
+    write-line-requires
     go-on-requires-2
     enum-told
     stop-requires-3

@@ -9,9 +9,9 @@ use denote.Ref.{now}
 use Rattle.script.specs.Text.{space, before, after}
 use Rattle.script.specs.Number.{numberOf}
 use Rattle.script.specs.Line.{longestLine, verbOf, parse}
-use Rattle.script.specs.Parsed.{verbIn, numberIn, told, bufferAfter}
+use Rattle.script.specs.Parsed.{verbIn, numberIn, parsedOf, bufferAfter}
 use Rattle.script.proofs.Lines.{parse-third, parse-no-number, parse-no-verb}
-use Rattle.script.proofs.Told.{told-line}
+use Rattle.script.proofs.Parsed.{parsed-line}
 use Rattle.script.proofs.line.parse_into.Statement.{statement}
 use Rattle.script.proofs.line.parse_into.Tie as tie
 
@@ -79,10 +79,10 @@ returns-2 c =
     let line = parse-third (now (a .line)) (short read) _ _ _ verb number
     (c .before .before .before .before .after2 .ensures
     ∙ ap (after space) (c .before .before .before .before .before .before .before .before .before .before .before .before .before .before .before .after .ensures)) in
-    let answer : c .before .before .third-field .result ≡ told (parse (now (a .line))) = rw line (c .before .before .third-field .ensures .0) in
+    let answer : c .before .before .third-field .result ≡ parsedOf (parse (now (a .line))) = rw line (c .before .before .third-field .ensures .0) in
     let left : c .before .before .third-field .last .1 .1 .1 .0 ≡ bufferAfter (now (a .buffer)) (parse (now (a .line))) =
     rw line (c .before .before .third-field .ensures .1) in
-    (told-line (now (a .buffer)) (c .before .before .before .before .before .before .before .before .before .before .before .before .before .before .before .before .before .before .before .pre) (now (a .line)) _ _ answer left, (answer, left))
+    (parsed-line (now (a .buffer)) (c .before .before .before .before .before .before .before .before .before .before .before .before .before .before .before .before .before .before .before .pre) (now (a .line)) _ _ answer left, (answer, left))
 
 returns-3 : tie.Need-returns-3
 returns-3 c =

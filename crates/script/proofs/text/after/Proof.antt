@@ -6,7 +6,8 @@ use native.Mathlib.Omega.{arith}
 use lib.ListN.{drop-of-length-le}
 use borrow.Author.Needs.{needs}
 use denote.Ref.{now}
-use Rattle.script.proofs.Texts.{part-to-end, after-found, after-missing, length-before}
+use Rattle.checks.proofs.Buffers.{part-to-end}
+use Rattle.script.proofs.Texts.{after-found, after-missing, length-before}
 use Rattle.script.proofs.text.after.Statement.{statement}
 use Rattle.script.proofs.text.after.Tie as tie
 
