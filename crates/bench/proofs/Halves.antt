@@ -5,16 +5,13 @@ use mathlib.Core.List.{List, [], _++_, append-nil}
 use Prim.Native.Nat.{ℕ, _-_, _≤_}
 use native.Mathlib.Omega.{arith}
 use lib.ListN.{length, take, drop, drop-of-length-le, length-drop}
-use lib.Seq.{take-all, take-at, drop-at}
-
--- what stands after the first part is all that is left
-pub rest : (l : List ℕ) (k : ℕ) → take (length l - k) (drop k l) ≡ drop k l
-rest l k = take-all (length l - k) (drop k l) (omega (arith, length-drop k l))
+use lib.Seq.{take-at, drop-at}
+use Rattle.checks.proofs.Buffers.{part-to-end}
 
 -- ys went over the first k elements of out, and zs over the others
 module _ (out ys zs : List ℕ) (k : ℕ) (count : length ys ≡ k) where
   pub second-half : take (length (ys ++ drop k out) - k) (drop k (ys ++ drop k out)) ≡ drop k out
-  second-half = rest (ys ++ drop k out) k ∙ drop-at ys (drop k out) k count
+  second-half = part-to-end (ys ++ drop k out) k ∙ drop-at ys (drop k out) k count
 
   pub both-halves : take k (ys ++ drop k out) ++ (zs ++ drop (length (ys ++ drop k out) - k) (drop k (ys ++ drop k out))) ≡ ys ++ zs
   both-halves =

@@ -1,2 +1,3 @@
+-- Crate `bench`: its laws.
 pub mod Halves
 pub mod FeedCounts

@@ -1,3 +1,4 @@
+-- Crate `bench`: its definitions.
 pub mod Chain
 pub mod Sponge
 pub mod Feeds

@@ -4,12 +4,12 @@ use mathlib.Core.Bool.{cond}
 use mathlib.Core.List.{List, [], _∷_}
 use Prim.Native.Nat.{ℕ, _-_, min}
 use lib.ListN.{length, take, drop}
+use Rattle.checks.specs.Equality.{same}
 use Rattle.mode.specs.declared.Mode.the-variants.{Mac}
 use Rattle.mode.specs.declared.Named.{Named}
 use Rattle.mode.specs.declared.Named.the-variants.{Is, NoMode}
 use Rattle.mode.specs.Mode.{row}
 use Rattle.sponge.specs.Sponge.{oneShot, runsEnded}
-use Rattle.sponge.specs.Record.{same}
 
 -- a message cut in two; a cut past the end is one at the end
 abbrev pub partsAt : ℕ → List ℕ → List (List ℕ)

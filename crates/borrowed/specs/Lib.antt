@@ -1,3 +1,4 @@
+-- Crate `borrowed`: its definitions.
 pub mod Borrows
 pub mod Elements
 pub mod Results

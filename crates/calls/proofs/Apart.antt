@@ -13,11 +13,11 @@ use Rattle.mode.specs.declared.Mode.the-variants.{Prf}
 use Rattle.mode.specs.declared.Named.{Named}
 use Rattle.mode.specs.declared.Named.the-variants.{Is, NoMode}
 use Rattle.mode.specs.Mode.{named}
-use Rattle.sponge.specs.Record.{same}
 use Rattle.calls.specs.declared.Answer.{Answer}
 use Rattle.calls.specs.Answer.{counted, judged}
 use Rattle.checks.specs.Checks.{OneCheck, checked}
 use Rattle.checks.specs.Buffers.{written}
+use Rattle.checks.specs.Equality.{same}
 use Rattle.calls.specs.Checks.{Standing, mostOpen, openChecks, ticketChecks, feedOwn, feedChecks, drawOwn, drawChecks, checkOwn, checkChecks}
 use Rattle.calls.specs.Call.{Call, Open, Feed, Draw, Check, Close, Sum, Response, Step, step, refuse, Event, events}
 use Rattle.calls.specs.Machine.{Entry, Machine, emptyMachine, runsOf, outputOf, newEntry, afterFeed, afterDraw, afterClose, entryOf, standingOf, put}
@@ -111,7 +111,8 @@ call-same t c m e n h = rw (names-act t c m n, standing-is t m e h, entry-is t m
   where
     go : (a : Act) → a .after e .number ≡ e .number → Match t (checked (refuse m (a .lent)) (checksOf a (standingFor e)) (stored a t m e)) (onEntry a e)
     go a same =
-        checked-both (Match t) (checksOf a (standingFor e)) (refuse m (a .lent)) (refuse e (a .lent)) (stored a t m e) (step (a .after e) (a .answer e) (a .buffer e))
+        checked-both (Match t) (checksOf a (standingFor e)) (refuse m (a .lent)) (refuse e (a .lent)) (stored a t m e)
+        (step (a .after e) (a .answer e) (a .buffer e))
         (λ k. record { gets = refl; entry = h })
         (λ p. record { gets = refl; entry = put-here t m e (a .after e) h (same ∙ named-is number t (m .entries) e [] h) })
 
@@ -217,12 +218,14 @@ open-same : (t mode : ℕ) (key : List ℕ) (m : Machine) → Sound m → isOn t
 unfolding openMachine openChecks admit withNew
 open-same t mode key m sound =
     checked-nonzero P (openChecks (named mode) key (length (m .entries)) (leb mostOpen (openCount m))) (refuse m []) (admit (named mode) key m)
-    ((λ q. omega arith), ((λ q. omega arith), ((λ q. omega arith), ((λ q. omega arith), tt)))) (λ k z q. absurd (false≢true (rw (ne-eqb k 0 z) at q))) (λ p. go (named mode))
+    ((λ q. omega arith), ((λ q. omega arith), ((λ q. omega arith), ((λ q. omega arith), tt)))) (λ k z q. absurd (false≢true (rw (ne-eqb k 0 z) at q)))
+    (λ p. go (named mode))
   where
     P : Step Machine → Type 0
     P s = isOn t (record { call = Open mode key; response = s .response }) ≡ true → all number t (s .after .entries) ≡ begun t (named mode) key ∷ []
 
-    go : (n : Named) → isOn t (record { call = Open mode key; response = admit n key m .response }) ≡ true → all number t (admit n key m .after .entries) ≡ begun t n key ∷ []
+    go : (n : Named) → isOn t (record { call = Open mode key; response = admit n key m .response }) ≡ true
+        → all number t (admit n key m .after .entries) ≡ begun t n key ∷ []
     go (Is mode) q = rw (← eqb-true (m .next) t q) (new-here m sound mode key)
     go NoMode q = absurd (false≢true q)
 

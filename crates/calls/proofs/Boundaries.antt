@@ -10,10 +10,9 @@ use Rattle.mode.specs.declared.Mode.{Mode}
 use Rattle.mode.specs.declared.Mode.the-variants.{Mac}
 use Rattle.mode.specs.Mode.{row, named}
 use Rattle.sponge.specs.Sponge.{ceiling, start, oneShot, runsFeeding, runsEnded}
-use Rattle.sponge.specs.Record.{same}
 use Rattle.calls.specs.declared.Answer.{Answer}
 use Rattle.calls.specs.Answer.{refused, opened, counted, judged, summed}
-use Rattle.checks.specs.Buffers.{written}
+use Rattle.checks.specs.Equality.{same}
 use Rattle.calls.specs.Checks.{openChecks, ticketChecks, feedOwn, feedChecks, drawOwn, drawChecks, checkOwn, checkChecks}
 use Rattle.calls.specs.Call.{Call, Open, Feed, Draw, Check, Close, Sum, Event, events}
 use Rattle.calls.specs.Keyed.{find, total}
@@ -82,13 +81,15 @@ drawing =
     -- 11 before 3
     ∷ (Draw 0 [] 0 1, refused 11) ∷ (Draw 4 [] 0 1, refused 11)
     -- place + count is the buffer's length, and more
-    ∷ (Draw 1 (zeros 4) 2 3, refused 3) ∷ (Draw 1 (zeros 4) 3 2, refused 3) ∷ (Draw 1 (zeros 4) 5 0, refused 3) ∷ (Draw 1 (zeros 4) 18446744073709551615 2, refused 3)
+    ∷ (Draw 1 (zeros 4) 2 3, refused 3) ∷ (Draw 1 (zeros 4) 3 2, refused 3) ∷ (Draw 1 (zeros 4) 5 0, refused 3)
+    ∷ (Draw 1 (zeros 4) 18446744073709551615 2, refused 3)
     ∷ (Feed 1 [], counted 1) ∷ (Draw 1 (zeros 4) 4 0, counted 2) ∷ (Draw 1 (zeros 4) 2 2, counted 2)
     -- of a hash 32 bytes in all; 3 before 17
     ∷ (Draw 1 (zeros 40) 0 31, refused 17) ∷ (Draw 1 (zeros 40) 0 30, counted 5) ∷ (Draw 1 (zeros 40) 0 1, refused 17) ∷ (Draw 1 [] 0 0, counted 5)
     ∷ (Draw 1 [] 0 1, refused 3) ∷ (Open 3 [], opened 4 1) ∷ (Draw 4 (zeros 33) 0 33, refused 17) ∷ (Draw 4 (zeros 33) 1 32, counted 5)
     -- of a MAC 16
-    ∷ (Draw 2 (zeros 17) 0 17, refused 17) ∷ (Draw 2 (zeros 16) 0 17, refused 3) ∷ (Feed 2 [], counted 1) ∷ (Draw 2 (zeros 17) 1 16, counted 2) ∷ (Draw 2 (zeros 1) 0 1, refused 17)
+    ∷ (Draw 2 (zeros 17) 0 17, refused 17) ∷ (Draw 2 (zeros 16) 0 17, refused 3) ∷ (Feed 2 [], counted 1) ∷ (Draw 2 (zeros 17) 1 16, counted 2)
+    ∷ (Draw 2 (zeros 1) 0 1, refused 17)
     -- no run is made until a byte beyond the block is drawn
     ∷ (Draw 3 (zeros 16) 0 16, counted 2) ∷ (Draw 3 (zeros 1) 0 1, counted 3)
     -- 12 before 3 and 17
@@ -104,7 +105,8 @@ checking =
     -- 11 before 18 and 4
     ∷ (Check 0 (zeros 7), refused 11) ∷ (Check 5 (zeros 7), refused 11)
     -- only of mode 2; 18 before 4
-    ∷ (Check 2 (zeros 16), refused 18) ∷ (Check 3 (zeros 16), refused 18) ∷ (Check 4 (zeros 16), refused 18) ∷ (Check 2 (zeros 7), refused 18) ∷ (Check 3 (zeros 17), refused 18)
+    ∷ (Check 2 (zeros 16), refused 18) ∷ (Check 3 (zeros 16), refused 18) ∷ (Check 4 (zeros 16), refused 18) ∷ (Check 2 (zeros 7), refused 18)
+    ∷ (Check 3 (zeros 17), refused 18)
     -- a tag of 8 to 16 bytes
     ∷ (Check 1 [], refused 4) ∷ (Check 1 (zeros 7), refused 4) ∷ (Check 1 (zeros 17), refused 4)
     ∷ (Feed 1 [], counted 1) ∷ (Check 1 (zeros 8), judged (verdict (zeros 8)) 2) ∷ (Check 1 (zeros 16), judged (verdict (zeros 16)) 2)
@@ -116,13 +118,6 @@ checking =
 pub boundaries : Answered script × Answered opening × Answered feeding × Answered drawing × Answered checking
 unfolding events machine emptyMachine openMachine openChecks named row admit newEntry runsOf formula runsFeeding runsEnded ceiling start openCount total feedMachine drawMachine checkMachine closeMachine ticketChecks feedChecks feedOwn drawChecks drawOwn checkChecks checkOwn standingOf entryOf placeOf find afterFeed afterDraw afterClose put sumMachine outputOf
 boundaries = (refl, refl, refl, refl, refl)
-
--- bytes written into a buffer
-pub writing : (written (1 ∷ 2 ∷ 3 ∷ 4 ∷ 5 ∷ []) 1 (8 ∷ 9 ∷ []) ≡ 1 ∷ 8 ∷ 9 ∷ 4 ∷ 5 ∷ [])
-    × (written (1 ∷ 2 ∷ 3 ∷ []) 3 [] ≡ 1 ∷ 2 ∷ 3 ∷ [])
-    × (written (1 ∷ 2 ∷ []) 0 (8 ∷ 9 ∷ []) ≡ 8 ∷ 9 ∷ [])
-unfolding written
-writing = (refl, refl, refl)
 
 -- each answer, field by field: what is not said is 0
 pub answers : (refused 5 ≡ record { refusal = 5; ticket = 0; runs = 0; passed = false; sum = 0 })

@@ -12,10 +12,10 @@ use Rattle.permutation.specs.Permutation.{sbox, addConstant, atEveryPlace, subs
 use Rattle.mode.specs.declared.Mode.the-variants.{Mac}
 use Rattle.mode.specs.Mode.{row, named}
 use Rattle.sponge.specs.Sponge.{ceiling, initial, start, pad, cut, blocks, flipIf, absorbBlocks, absorbMessage, squeezeBlocks, squeezeBytes, output, oneShot, runsFeeding, runsEnded}
-use Rattle.sponge.specs.Record.{same}
-use Rattle.sponge.proofs.Tags.{equal-same, other-same}
 use Rattle.calls.specs.Answer.{opened, judged}
 use Rattle.checks.specs.Buffers.{written}
+use Rattle.checks.specs.Equality.{same}
+use Rattle.checks.proofs.Equality.{equal-same, other-same}
 use Rattle.calls.specs.Checks.{openChecks, ticketChecks, drawOwn, drawChecks, checkOwn, checkChecks}
 use Rattle.calls.specs.Call.{Open, Draw, Check, Event, events}
 use Rattle.calls.specs.Keyed.{find, total}

@@ -170,4 +170,8 @@ module _ {A : Type 0} where
       pub total-set : (f : A → ℕ) (y : A) → total f (set l (find number t l) y) + f x ≡ total f l + f y
       unfolding total
       total-set f y =
-          omega (arith, ap (total f) (replaced y) ∙ total-append f (cut .front) (y ∷ cut .back), ap (total f) (cut .whole) ∙ total-append f (cut .front) (x ∷ cut .back))
+          omega (
+            arith,
+            ap (total f) (replaced y) ∙ total-append f (cut .front) (y ∷ cut .back),
+            ap (total f) (cut .whole) ∙ total-append f (cut .front) (x ∷ cut .back),
+          )

@@ -1,3 +1,4 @@
+-- Crate `calls`: its laws.
 pub mod Keyed
 pub mod Walks
 pub mod Checks

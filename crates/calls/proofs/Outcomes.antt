@@ -14,11 +14,11 @@ use Rattle.mode.specs.declared.Mode.the-variants.{Prf, Mac, Hash, Xof}
 use Rattle.mode.specs.declared.Named.{Named}
 use Rattle.mode.specs.declared.Named.the-variants.{Is, NoMode}
 use Rattle.mode.specs.Mode.{row, numberOf, named, numberNamed, modeNumber}
-use Rattle.sponge.specs.Record.{same}
 use Rattle.mode.proofs.Modes.{number-named}
 use Rattle.calls.specs.Answer.{opened, counted, judged}
 use Rattle.calls.specs.Call.{Call, Open, Feed, Draw, Check, Close, Sum, Step, step, refuse}
 use Rattle.checks.specs.Checks.{OneCheck, checked}
+use Rattle.checks.specs.Equality.{same}
 use Rattle.calls.specs.Checks.{Standing, mostIssued, mostFed, mostOpen}
 use Rattle.checks.specs.Buffers.{written}
 use Rattle.calls.specs.Checks.{openChecks, ticketChecks, feedOwn, feedChecks, drawOwn, drawChecks, checkOwn, checkChecks}

@@ -115,11 +115,13 @@ module _ {A : Type 0} (answer : ℕ → A) (done : A) where
       unfolding drawChecks drawOwn ticketChecks
       draw-3 past = rw (lt-ltb (length buffer) (place + count) past)
 
-      pub draw-17 : place + count ≤ length buffer → most mode < drawn + count → outcome (drawChecks (openStanding mode feeding fed drawn) buffer place count) ≡ answer 17
+      pub draw-17 : place + count ≤ length buffer → most mode < drawn + count
+          → outcome (drawChecks (openStanding mode feeding fed drawn) buffer place count) ≡ answer 17
       unfolding drawChecks drawOwn ticketChecks
       draw-17 fits more = rw (le-ltb (length buffer) (place + count) fits, most-drawn mode, lt-ltb (most mode) (drawn + count) more)
 
-      pub draw-done : place + count ≤ length buffer → drawn + count ≤ most mode → outcome (drawChecks (openStanding mode feeding fed drawn) buffer place count) ≡ done
+      pub draw-done : place + count ≤ length buffer → drawn + count ≤ most mode
+          → outcome (drawChecks (openStanding mode feeding fed drawn) buffer place count) ≡ done
       unfolding drawChecks drawOwn ticketChecks
       draw-done fits room = rw (le-ltb (length buffer) (place + count) fits, most-drawn mode, le-ltb (most mode) (drawn + count) room)
 

@@ -7,11 +7,11 @@ use mathlib.Core.List.{List, [], _∷_}
 use Prim.Native.Nat.{ℕ, _≤_}
 use native.Mathlib.Nat.{add-zero}
 use lib.ListN.{length, take}
+use Rattle.checks.specs.Equality.{same}
+use Rattle.checks.proofs.Equality.{equal-same, other-same}
 use Rattle.mode.specs.declared.Mode.the-variants.{Mac}
 use Rattle.mode.specs.Mode.{row}
 use Rattle.sponge.specs.Sponge.{start, oneShot, runsEnded}
-use Rattle.sponge.specs.Record.{same}
-use Rattle.sponge.proofs.Tags.{equal-same, other-same}
 use Rattle.calls.specs.Answer.{judged}
 use Rattle.calls.specs.Call.{Step, step, refuse}
 use Rattle.calls.specs.Machine.{Entry, Machine, formula, runsOf, outputOf, afterDraw, put, checkMachine}

@@ -52,7 +52,8 @@ openChecks mode key issued full =
 
 -- ---- calls on a ticket
 
--- what is asked about a ticket: whether it was ever issued and whether it is open; of an open one its mode, whether feeding lasts, and how many bytes are fed and drawn
+-- what is asked about a ticket: whether it was ever issued and whether it is open; of an open one its mode, whether feeding lasts, and how many bytes are fed
+-- and drawn
 pub record Standing : Type 0 where
   pub issued : Bool
   pub isOpen : Bool

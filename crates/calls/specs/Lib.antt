@@ -1,3 +1,4 @@
+-- Crate `calls`: its definitions.
 pub mod Answer
 pub mod Checks
 pub mod Call

@@ -12,10 +12,10 @@ use Rattle.mode.specs.declared.Named.{Named}
 use Rattle.mode.specs.declared.Named.the-variants.{Is, NoMode}
 use Rattle.mode.specs.Mode.{row, named}
 use Rattle.sponge.specs.Sponge.{start, oneShot, runsFeeding, runsEnded}
-use Rattle.sponge.specs.Record.{same}
 use Rattle.calls.specs.Answer.{opened, counted, judged, summed}
 use Rattle.checks.specs.Checks.{checked}
 use Rattle.checks.specs.Buffers.{written}
+use Rattle.checks.specs.Equality.{same}
 use Rattle.calls.specs.Checks.{Standing, mostOpen, openChecks, ticketChecks, feedChecks, drawChecks, checkChecks}
 use Rattle.calls.specs.Call.{Call, Open, Feed, Draw, Check, Close, Sum, Step, step, refuse}
 use Rattle.calls.specs.Keyed.{find, total}

@@ -1,12 +1,16 @@
--- A lent buffer after bytes were written into it: they stand where they were written, and every other byte is as it was.
+-- A lent buffer, and a part of it. After bytes were written into it they stand where they were written, and every other byte is as it was.
 -- Assumes nothing.
-use mathlib.Core.Path.{_≡_, sym, ap, _∙_}
-use mathlib.Core.List.{List, _++_}
+use mathlib.Core.Path.{_≡_, refl, sym, ap, _∙_}
+use mathlib.Core.List.{List, [], _∷_, _++_}
 use Prim.Native.Nat.{ℕ, _+_, _-_, _≤_, _<_}
 use native.Mathlib.Omega.{arith}
 use lib.ListN.{length, take, drop, getD, length-append, length-take, length-drop, List·getD-append}
-use lib.Seq.{length-take-le, take-at, drop-at, drop-drop, getD-append-add, getD-take, getD-drop}
+use lib.Seq.{length-take-le, take-at, drop-at, drop-drop, getD-append-add, getD-take, getD-drop, take-all}
 use Rattle.checks.specs.Buffers.{written}
+
+-- a part that goes to the end
+pub part-to-end : (s : List ℕ) (a : ℕ) → take (length s - a) (drop a s) ≡ drop a s
+part-to-end s a = take-all (length s - a) (drop a s) (rw length-drop (omega arith))
 
 -- the bytes lie in the buffer from place on
 module _ (buffer : List ℕ) (place : ℕ) (bytes : List ℕ) (fits : place + length bytes ≤ length buffer) where
@@ -61,3 +65,10 @@ part-written buffer place k bytes e = rw (e, drop-drop)
 -- the part's length
 pub part-length : (buffer : List ℕ) (place k : ℕ) → place + k ≤ length buffer → length (take (place + k - place) (drop place buffer)) ≡ k
 part-length buffer place k h = simp (length-take, length-drop) (omega arith)
+
+-- for the reader: bytes written into a buffer, computed
+pub writing : (written (1 ∷ 2 ∷ 3 ∷ 4 ∷ 5 ∷ []) 1 (8 ∷ 9 ∷ []) ≡ 1 ∷ 8 ∷ 9 ∷ 4 ∷ 5 ∷ [])
+    × (written (1 ∷ 2 ∷ 3 ∷ []) 3 [] ≡ 1 ∷ 2 ∷ 3 ∷ [])
+    × (written (1 ∷ 2 ∷ []) 0 (8 ∷ 9 ∷ []) ≡ 8 ∷ 9 ∷ [])
+unfolding written
+writing = (refl, refl, refl)

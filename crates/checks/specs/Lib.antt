@@ -1,2 +1,4 @@
+-- Crate `checks`: its definitions.
 pub mod Checks
 pub mod Buffers
+pub mod Equality

@@ -1,1 +1,2 @@
+-- Crate `controller`: its laws.
 pub mod Lending

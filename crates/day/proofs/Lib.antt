@@ -1,1 +1,2 @@
+-- Crate `day`: its laws.
 pub mod CallList

@@ -1,1 +1,2 @@
+-- Crate `day`: its definitions.
 pub mod Day

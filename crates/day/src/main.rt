@@ -1,52 +1,15 @@
 // A day at the ramp, on the hub by value: sixteen lines interleaved, tags judged, tickets closed twice, and every refusal that a run can reach. It prints each call
 // with all its arguments and what the call gave. tests/ reads that list and works every answer and every byte out anew, from document 01 alone.
-use calls::Answer;
 use hub::Hub;
+use listing::print_answer;
+use listing::print_bytes;
+use listing::print_number;
 ghost use mathlib.Core.Path.{_≡_};
 ghost use Prim.Native.Nat.{_-_, _≤_, _<_};
 ghost use lib.ListN.{length, replicate};
 ghost use Rattle.calls.specs.Call.{Feed, final};
 ghost use Rattle.hub.specs.Hub.{emptyHub, openHub, feedHub, drawHub, checkHub, closeHub, sumHub, onHub};
 ghost use Rattle.day.specs.Day.{callAt, callsFrom};
-
-// ---- printing
-
-fn print_byte(byte: u8) {
-    io::print_decimal(1, byte as u64);
-}
-
-fn print_bytes(bytes: &[u8]) {
-    io::write_all(1, b" [");
-    let mut i = 0;
-    while i < bytes.len() {
-        if i != 0 {
-            io::write_all(1, b" ");
-        }
-        print_byte(bytes[i]);
-        i += 1;
-    }
-    io::write_all(1, b"]");
-}
-
-fn print_number(n: u64) {
-    io::write_all(1, b" ");
-    io::print_decimal(1, n);
-}
-
-fn print_answer(answer: Answer) {
-    io::write_all(1, b" = refusal");
-    print_number(answer.refusal as u64);
-    io::write_all(1, b" ticket");
-    print_number(answer.ticket as u64);
-    io::write_all(1, b" runs");
-    print_number(answer.runs);
-    if answer.passed {
-        io::write_all(1, b" passed 1 sum");
-    } else {
-        io::write_all(1, b" passed 0 sum");
-    }
-    print_number(answer.sum);
-}
 
 // ---- the calls: each is printed, made, and its hub handed on
 

@@ -11,12 +11,13 @@ use lib.Dec.{eqb, ltb}
 use lib.ListN.{length, take, length-take, length-drop}
 use lib.Seq.{length-take-le, take-all}
 use Rattle.checks.specs.Buffers.{written}
+use Rattle.checks.specs.Equality.{same}
 use Rattle.checks.proofs.Checks.{Pass, Nonzero, refused-by-number, zero-passes, passed-done}
 use Rattle.mode.specs.declared.Mode.the-variants.{Mac}
 use Rattle.mode.specs.Mode.{row}
 use Rattle.sponge.specs.declared.record.Record.{Record}
 use Rattle.sponge.specs.Sponge.{ceiling, start, runsEnded}
-use Rattle.sponge.specs.Record.{same, fresh, absorbed, finished, afterDrawing, nextBytes, squeezed, tagMatches}
+use Rattle.sponge.specs.Record.{fresh, absorbed, finished, afterDrawing, nextBytes, squeezed, tagMatches}
 use Rattle.sponge.proofs.Calls.{length-nextBytes}
 use Rattle.sponge.proofs.Streaming.{calls-all-bytes, calls-block, calls-ended-runs, runs-fit}
 use Rattle.frame.specs.Frame.{tagFor, tagIn, frameChecks, frameRefusal, frameRuns, sealRefused, sealAnswer, sealAfter, verifyRefused, verifyAnswer}

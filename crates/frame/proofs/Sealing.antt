@@ -10,12 +10,12 @@ use borrow.Author.Tests.{lt-ltb, le-ltb}
 use lib.ListN.{length, getD, take, drop}
 use lib.Seq.{length-take-le, take-at}
 use Rattle.checks.specs.Buffers.{written}
+use Rattle.checks.specs.Equality.{same}
+use Rattle.checks.proofs.Equality.{equal-same, same-equal}
 use Rattle.checks.proofs.Buffers.{length-written, read-written, before-written, after-written}
 use Rattle.mode.specs.declared.Mode.the-variants.{Mac}
 use Rattle.mode.specs.Mode.{row}
 use Rattle.sponge.specs.Sponge.{oneShot}
-use Rattle.sponge.specs.Record.{same}
-use Rattle.sponge.proofs.Tags.{equal-same, same-equal}
 use Rattle.frame.specs.declared.Judged.{Judged}
 use Rattle.frame.specs.Frame.{tagFor, tagIn, frameRefusal, sealAnswer, sealAfter, verifyAnswer}
 use Rattle.frame.proofs.Laws.{refused-2, refused-3, refused-none, seal-refused, seal-kept, verify-refused, seal-wrote, verify-done, length-tagFor}
@@ -31,7 +31,10 @@ pub record RefusedWith (n : ℕ) (key frame : List ℕ) (body : ℕ) : Type 0 wh
 -- a key that does not have sixteen bytes is refused with 2; else a frame with no room for the tag after the body is refused with 3
 pub refusals : (key frame : List ℕ) (body : ℕ)
     → (length key ≢ 16 → RefusedWith 2 key frame body) × (length key ≡ 16 → length frame < body + 16 → RefusedWith 3 key frame body)
-refusals key frame body = (λ h. by 2 (refused-2 key frame body h) (λ e. omega (arith, e)), λ h l. by 3 (refused-3 key frame body h (lt-ltb _ _ l)) (λ e. omega (arith, e)))
+refusals key frame body = (
+  λ h. by 2 (refused-2 key frame body h) (λ e. omega (arith, e)),
+  λ h l. by 3 (refused-3 key frame body h (lt-ltb _ _ l)) (λ e. omega (arith, e)),
+)
   where
     by : (n : ℕ) → frameRefusal key frame body ≡ n → n ≢ 0 → RefusedWith n key frame body
     by n e h = record {

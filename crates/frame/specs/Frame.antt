@@ -8,10 +8,10 @@ use lib.Dec.{eqb, ltb}
 use lib.ListN.{length, take, drop}
 use Rattle.checks.specs.Checks.{OneCheck, refusal, checked}
 use Rattle.checks.specs.Buffers.{written}
+use Rattle.checks.specs.Equality.{same}
 use Rattle.mode.specs.declared.Mode.the-variants.{Mac}
 use Rattle.mode.specs.Mode.{row}
 use Rattle.sponge.specs.Sponge.{oneShot}
-use Rattle.sponge.specs.Record.{same}
 use Rattle.frame.specs.declared.Sealed.{Sealed}
 use Rattle.frame.specs.declared.Judged.{Judged}
 

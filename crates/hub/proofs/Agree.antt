@@ -13,13 +13,14 @@ use Rattle.mode.specs.declared.Named.{Named}
 use Rattle.mode.specs.declared.Named.the-variants.{Is, NoMode}
 use Rattle.sponge.specs.declared.record.Record.{Record}
 use Rattle.mode.specs.Mode.{numberOf, named}
-use Rattle.sponge.specs.Record.{sum64, vacant, absorbed, finished, nextBytes, squeezed, same, tagMatches}
+use Rattle.sponge.specs.Record.{sum64, vacant, absorbed, finished, nextBytes, squeezed, tagMatches}
 use Rattle.sponge.proofs.Core.{sum64-fits}
 use Rattle.calls.specs.declared.Answer.{Answer}
 use Rattle.calls.specs.Answer.{opened, counted, judged, summed}
 use Rattle.calls.specs.Call.{Call, Open, Feed, Draw, Check, Close, Sum, Response, Step, step, refuse, Event, events, final}
 use Rattle.checks.specs.Checks.{OneCheck, checked}
 use Rattle.checks.specs.Buffers.{written}
+use Rattle.checks.specs.Equality.{same}
 use Rattle.calls.specs.Checks.{Standing, shortestTag, longestTag, openChecks, ticketChecks, feedOwn, feedChecks, drawOwn, drawChecks, checkOwn, checkChecks}
 use Rattle.calls.specs.Keyed.{total}
 use Rattle.calls.specs.Machine.{Entry, Machine, emptyMachine, runsOf, outputOf, newEntry, afterFeed, afterDraw, afterClose, entryOf, openMachine, feedMachine, drawMachine, checkMachine, closeMachine, sumMachine, machine}

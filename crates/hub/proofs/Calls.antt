@@ -1,4 +1,5 @@
--- What each call gives. A call on a ticket gives what it makes of the ticket's record, put back: one law for all of them, over the call's own checks and what it does.
+-- What each call gives. A call on a ticket gives what it makes of the ticket's record, put back: one law for all of them, over the call's own checks and what
+-- it does.
 -- Assumes nothing.
 use mathlib.Core.Bool.{Bool, true, false}
 use mathlib.Core.Path.{_≡_, refl, sym, ap, _∙_}
@@ -81,9 +82,11 @@ module _ (own : Standing → List OneCheck) (made : Record → Record) (answer :
 
     by-standing : (issued isOpen : Bool) → standingOf t h .issued ≡ issued → standingOf t h .isOpen ≡ isOpen → onTicket t h ≡ atPlace (located t h)
     by-standing false isOpen e o =
-        never-issued (refuse h before) (standingOf t h) (own (standingOf t h)) _ e ∙ ap (λ (g : Hub). refuse g before 11) (sym (put-same 0 h)) ∙ ap atPlace (sym (located-never t h e))
+        never-issued (refuse h before) (standingOf t h) (own (standingOf t h)) _ e ∙ ap (λ (g : Hub). refuse g before 11) (sym (put-same 0 h))
+        ∙ ap atPlace (sym (located-never t h e))
     by-standing true false e o =
-        is-closed (refuse h before) (standingOf t h) (own (standingOf t h)) _ e o ∙ ap (λ (g : Hub). refuse g before 12) (sym (put-same 0 h)) ∙ ap atPlace (sym (located-closed t h e o))
+        is-closed (refuse h before) (standingOf t h) (own (standingOf t h)) _ e o ∙ ap (λ (g : Hub). refuse g before 12) (sym (put-same 0 h))
+        ∙ ap atPlace (sym (located-closed t h e o))
     by-standing true true e o =
         is-open (refuse h before) (standingOf t h) (own (standingOf t h)) _ e o ∙ own-checks e o ∙ ap atPlace (sym (located-open t h e o))
 

@@ -1,3 +1,4 @@
+-- Crate `hub`: its laws.
 pub mod Locating
 pub mod RecordCalls
 pub mod Calls

@@ -7,11 +7,12 @@ use Prim.Native.Nat.{ℕ, _+_, _^_, _≤_, _<_}
 use native.Mathlib.Omega.{arith}
 use native.Mathlib.Nat.{zero-add, add-zero}
 use lib.ListN.{length, drop}
+use Rattle.checks.specs.Equality.{same}
 use Rattle.mode.specs.declared.Mode.{Mode}
 use Rattle.mode.specs.declared.Mode.the-variants.{Prf, Mac, Hash, Xof}
 use Rattle.sponge.specs.declared.record.Record.{Record}
 use Rattle.mode.specs.Mode.{row, numberOf}
-use Rattle.sponge.specs.Record.{sum64, withCore, withDrawn, afterRun, afterDrawing, fresh, absorbed, finished, nextBytes, squeezed, same, tagMatches}
+use Rattle.sponge.specs.Record.{sum64, withCore, withDrawn, afterRun, afterDrawing, fresh, absorbed, finished, nextBytes, squeezed, tagMatches}
 use Rattle.sponge.proofs.Core.{sum64-fits, sum64-zero, withCoreOf}
 use Rattle.sponge.proofs.Calls.{absorbed-is, absorbed-none, absorbed-append, finished-is, squeezed-is, squeezed-add, finished-again}
 use Rattle.sponge.proofs.Streaming.{calls-feeding-runs, calls-bytes, calls-verdict, calls-ended-runs}

@@ -35,7 +35,8 @@ module _ (n : ℕ) (r : Record) where
       unfolding feedRecord feedOwn
       feed-16 e15 e16 = rw (e, e15, e16)
 
-      pub feed-done : not (r .feeding) ≡ false → ltb mostFed (r .fed + length bytes) ≡ false → feedRecord n bytes r ≡ step (absorbed bytes r) (counted (absorbed bytes r .runs)) []
+      pub feed-done : not (r .feeding) ≡ false → ltb mostFed (r .fed + length bytes) ≡ false
+          → feedRecord n bytes r ≡ step (absorbed bytes r) (counted (absorbed bytes r .runs)) []
       unfolding feedRecord feedOwn
       feed-done e15 e16 = rw (e, e15, e16)
 
@@ -51,7 +52,8 @@ module _ (n : ℕ) (r : Record) where
       unfolding drawRecord drawOwn
       draw-3 e3 = rw (e, e3)
 
-      pub draw-17 : ltb (length buffer) (place + count) ≡ false → ltb (row (r .mode) .mostDrawn) (r .drawn + count) ≡ true → drawRecord n buffer place count r ≡ refuse r buffer 17
+      pub draw-17 : ltb (length buffer) (place + count) ≡ false → ltb (row (r .mode) .mostDrawn) (r .drawn + count) ≡ true
+          → drawRecord n buffer place count r ≡ refuse r buffer 17
       unfolding drawRecord drawOwn
       draw-17 e3 e17 = rw (e, e3, e17)
 
@@ -73,7 +75,8 @@ module _ (n : ℕ) (r : Record) where
       unfolding checkRecord checkOwn
       check-18 e18 = rw (e, e18)
 
-      pub check-4 : not (eqb (numberOf (r .mode)) 2) ≡ false → ltb (length tag) shortestTag || ltb longestTag (length tag) ≡ true → checkRecord n tag r ≡ refuse r [] 4
+      pub check-4 : not (eqb (numberOf (r .mode)) 2) ≡ false → ltb (length tag) shortestTag || ltb longestTag (length tag) ≡ true
+          → checkRecord n tag r ≡ refuse r [] 4
       unfolding checkRecord checkOwn
       check-4 e18 e4 = rw (e, e18, e4)
 
@@ -101,7 +104,8 @@ module _ (n : ℕ) (r : Record) where
   pub feed-kept : (bytes : List ℕ) → Kept (feedRecord n bytes r)
   unfolding feedRecord
   feed-kept bytes =
-      checked-each Kept (found n ∷ feedOwn (standingAs r) bytes) (refuse r []) (step (absorbed bytes r) (counted (absorbed bytes r .runs)) []) (λ k h. (refl, refl)) (λ pass h. absurd (h refl))
+      checked-each Kept (found n ∷ feedOwn (standingAs r) bytes) (refuse r []) (step (absorbed bytes r) (counted (absorbed bytes r .runs)) [])
+      (λ k h. (refl, refl)) (λ pass h. absurd (h refl))
 
   pub close-kept : Kept (closeRecord n r)
   unfolding closeRecord

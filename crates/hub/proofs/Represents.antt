@@ -103,7 +103,8 @@ module _ (h : Hub) (m : Machine) (s : Sound m) (rep : Represents h m) (t : ℕ) 
   held-if b o = rep .held t positive ∙ ap models q ∙ ap (λ (b : Bool). cond b (model e ∷ []) []) o
 
 -- the ticket is open
-module _ (h : Hub) (m : Machine) (s : Sound m) (rep : Represents h m) (t : ℕ) (e : Entry) (q : all number t (m .entries) ≡ e ∷ []) (o : e .isOpen ≡ true) (g : Good e) where
+module _ (h : Hub) (m : Machine) (s : Sound m) (rep : Represents h m) (t : ℕ) (e : Entry) (q : all number t (m .entries) ≡ e ∷ []) (o : e .isOpen ≡ true)
+    (g : Good e) where
   here : all ticket t (h .records) ≡ model e ∷ []
   here = held-if h m s rep t e q true o
 
@@ -185,7 +186,8 @@ pub next-is : (h : Hub) (m : Machine) → Sound m → Represents h m → m .next
 next-is h m s rep = s .numbered ∙ ap (λ (n : ℕ). n + 1) (sym (rep .issues))
 
 -- its record comes to the first free place
-module _ (h : Hub) (m : Machine) (s : Sound m) (rep : Represents h m) (x : Record) (xs : List Record) (free : all ticket 0 (h .records) ≡ x ∷ xs) (mode : Mode) (key : List ℕ) where
+module _ (h : Hub) (m : Machine) (s : Sound m) (rep : Represents h m) (x : Record) (xs : List Record) (free : all ticket 0 (h .records) ≡ x ∷ xs) (mode : Mode)
+    (key : List ℕ) where
   abbrev new : Entry
   new = newEntry (m .next) mode key
 

@@ -1,3 +1,4 @@
+-- Crate `hub`: its definitions.
 pub mod Hub
 pub mod Records
 pub mod Law

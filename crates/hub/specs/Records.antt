@@ -51,7 +51,8 @@ unfoldable pub drawRecord : ℕ → List ℕ → ℕ → ℕ → Record → Step
 drawRecord n buffer place count r =
     let ended : Record = finished r in
     let after : Record = squeezed count ended in
-    checked (refuse r buffer) (found n ∷ drawOwn (standingAs r) buffer place count) (step after (counted (after .runs)) (written buffer place (nextBytes count ended)))
+    checked (refuse r buffer) (found n ∷ drawOwn (standingAs r) buffer place count)
+    (step after (counted (after .runs)) (written buffer place (nextBytes count ended)))
 
 unfoldable pub checkRecord : ℕ → List ℕ → Record → Step Record
 checkRecord n tag r =

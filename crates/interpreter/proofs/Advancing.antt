@@ -81,11 +81,13 @@ module _ (s : Session) (line chunk : List ℕ) (at : ℕ) (out : List ℕ) (from
     after : Reader
     after = readerOf (holding s (s .held + n)) line′
 
-    moved : (size : ℕ) (before : List ℕ) → length before + longestAnswer ≤ size → filled size (readerOf s line) before (drop at chunk) ≡ filled size after before (drop (at + n) chunk)
+    moved : (size : ℕ) (before : List ℕ) → length before + longestAnswer ≤ size
+        → filled size (readerOf s line) before (drop at chunk) ≡ filled size after before (drop (at + n) chunk)
     unfolding after
     moved size before room =
         ap (filled size (readerOf s line) before) (chunk-split chunk at (length line - s .held) n count)
-        ∙ filled-held size (readerOf s line) before taken (drop (at + n) chunk) room going (omega (arith, taken-room, count)) (piece-clean chunk at (length line - s .held))
+        ∙ filled-held size (readerOf s line) before taken (drop (at + n) chunk) room going (omega (arith, taken-room, count))
+        (piece-clean chunk at (length line - s .held))
         ∙ rw (← count, ← put)
 
     pub advance-held : (q : Session) (m : ℕ) → at + n ≡ length chunk → q ≡ holding s (s .held + n) → m ≡ min from (length out)

@@ -8,7 +8,8 @@ use native.Mathlib.Omega.{arith}
 use lib.Dec.{eqb, leb, ltb}
 use lib.ListN.{length, take, length-append}
 use borrow.Author.Tests.{eqb-true, leb-true, ltb-true}
-use Rattle.script.specs.Text.{newline, same}
+use Rattle.checks.specs.Equality.{same}
+use Rattle.script.specs.Text.{newline}
 use Rattle.script.specs.Line.{longestLine, parse}
 use Rattle.interpreter.specs.declared.Session.{Session}
 use Rattle.interpreter.specs.Script.{Meaning, theNames, aCall, aFault, meaning, names, mostLines, asCall}
@@ -45,8 +46,10 @@ unfolding stepped
 step-left s line e = go (meaning (s .number) line) refl e
   where
     go : (m : Meaning) → meaning (s .number) line ≡ m → stepBy s m .session .going ≡ true → left (stepBy s m .session) + 1 ≤ left s
-    go theNames p q = line-left s theNames (λ z. let y : _≡_ {A = ℕ} 0 1 = cc in omega arith) (no-fault (s .number) line theNames p (λ z. let y : _≡_ {A = ℕ} 0 1 = cc in omega arith))
-    go (aCall c) p q = line-left s (aCall c) (λ z. let y : _≡_ {A = ℕ} 0 1 = cc in omega arith) (no-fault (s .number) line (aCall c) p (λ z. let y : _≡_ {A = ℕ} 0 1 = cc in omega arith))
+    go theNames p q = line-left s theNames (λ z. let y : _≡_ {A = ℕ} 0 1 = cc in omega arith)
+        (no-fault (s .number) line theNames p (λ z. let y : _≡_ {A = ℕ} 0 1 = cc in omega arith))
+    go (aCall c) p q = line-left s (aCall c) (λ z. let y : _≡_ {A = ℕ} 0 1 = cc in omega arith)
+        (no-fault (s .number) line (aCall c) p (λ z. let y : _≡_ {A = ℕ} 0 1 = cc in omega arith))
     go aFault p q = not-going q
 
 -- so does any byte
@@ -55,8 +58,10 @@ unfolding byteStep left
 byte-left r b e = go (r .session .going) (eqb b newline) (ltb (r .session .held) longestLine) refl refl e
   where
     go : (t u v : Bool) → r .session .going ≡ t → ltb (r .session .held) longestLine ≡ v
-        → cond t (cond u (afterStep r (stepped (r .session) (take (r .session .held) (r .line)))) (cond v (hold r b) (afterStep r (stopped (r .session))))) (silent r) .reader .session .going ≡ true
-        → left (cond t (cond u (afterStep r (stepped (r .session) (take (r .session .held) (r .line)))) (cond v (hold r b) (afterStep r (stopped (r .session))))) (silent r) .reader .session) + 1 ≤ left (r .session)
+        → cond t (cond u (afterStep r (stepped (r .session) (take (r .session .held) (r .line)))) (cond v (hold r b) (afterStep r (stopped (r .session)))))
+        (silent r) .reader .session .going ≡ true
+        → left (cond t (cond u (afterStep r (stepped (r .session) (take (r .session .held) (r .line))))
+        (cond v (hold r b) (afterStep r (stopped (r .session))))) (silent r) .reader .session) + 1 ≤ left (r .session)
     go true true v p q e = step-left (r .session) (take (r .session .held) (r .line)) e
     go true false true p q e = let h = ltb-true (r .session .held) longestLine q in omega arith
     go true false false p q e = not-going e
@@ -80,7 +85,8 @@ unfolding joined
 chunks-short [] h = omega arith
 chunks-short (c ∷ cs) h = omega (arith, h .0, chunks-short cs (h .1), length-append c (joined cs))
 
-pub turns-enough : (line : List ℕ) (chunks : List (List ℕ)) → NotEmpty chunks → fedAll (atFirst line) chunks .reader .session .going ≡ true → length chunks ≤ mostInput
+pub turns-enough : (line : List ℕ) (chunks : List (List ℕ)) → NotEmpty chunks → fedAll (atFirst line) chunks .reader .session .going ≡ true
+    → length chunks ≤ mostInput
 unfolding left begun
 turns-enough line chunks h e =
     let f = fed-joined (atFirst line) chunks in

@@ -50,5 +50,7 @@ module _ (s : Session) (line out : List ℕ) where
       → Finishing (record { session = r .session; size = r .size }) line′ out′
   unfolding stepOf
   finish-supplied r line′ out′ e p q t =
-      let f = supplied e in
-      (ap (λ (x : Progress). stepOf x) p ∙ ap (λ (x : Filled). stepOf (progressOf (newline ∷ []) x)) f, (q ∙ ap (λ (x : Filled). x .reader .line) f, t ∙ ap (λ (x : Filled). written out 0 (x .text)) f))
+      let f = supplied e in (
+        ap (λ (x : Progress). stepOf x) p ∙ ap (λ (x : Filled). stepOf (progressOf (newline ∷ []) x)) f,
+        (q ∙ ap (λ (x : Filled). x .reader .line) f, t ∙ ap (λ (x : Filled). written out 0 (x .text)) f),
+      )

@@ -8,6 +8,7 @@ use Prim.Native.String.{String}
 use Rattle.mode.specs.Mode.{row, named}
 use Rattle.sponge.specs.Sponge.{ceiling, start, oneShot, output as spongeOutput, squeezeBytes, runsFeeding, runsEnded}
 use Rattle.checks.specs.Buffers.{written}
+use Rattle.checks.specs.Equality.{same}
 use Rattle.calls.specs.Checks.{openChecks, ticketChecks, feedOwn, feedChecks, drawOwn, drawChecks, checkOwn, checkChecks}
 use Rattle.calls.specs.declared.Answer.{Answer}
 use Rattle.calls.specs.Call.{
@@ -46,9 +47,9 @@ use Rattle.calls.specs.Machine.{
   sumMachine,
   machine,
 }
-use Rattle.script.specs.Text.{text, same, before, after}
+use Rattle.script.specs.Text.{text, before, after}
 use Rattle.script.specs.Number.{isDigit, allDigits, plainStart, valueFrom, isNumber, numberOf, spelled, decimal}
-use Rattle.script.specs.Hex.{nibble, glyph, hexPairs, decoded, hexOf, bytesText}
+use Rattle.script.specs.Hex.{nibble, digitOf, hexPairs, decoded, hexOf, bytesText}
 use Rattle.script.specs.Line.{verbOf, isDash, isHex, bytesOf, noBytesOf, countValue, isCount, countOf, fieldOf, fields, parse}
 use Rattle.script.specs.Answer.{answerLine}
 use Rattle.script.specs.Input.{lines}
@@ -74,7 +75,7 @@ pub shown-answers :
     × Shows Close (accepting true) "ok 5 -\n" × Shows Sum (accepting true) "ok 9 -\n"
     × Shows Open refusing "no 17 -\n" × Shows Feed refusing "no 17 -\n" × Shows Draw refusing "no 17 -\n"
     × Shows Check refusing "no 17 -\n" × Shows Close refusing "no 17 -\n" × Shows Sum refusing "no 17 -\n"
-unfolding answered wordFor numberFor bytesFor answerLine spelled decimal glyph hexOf bytesText
+unfolding answered wordFor numberFor bytesFor answerLine spelled decimal digitOf hexOf bytesText
 shown-answers = (refl, refl, refl, refl, refl, refl, refl, refl, refl, refl, refl, refl, refl)
 
 -- this line, as line 2, means that call
@@ -123,5 +124,5 @@ pub examples :
     -- refused calls: a draw prints no bytes, and an open no ticket
     × Prints "call number bytes\ndraw 1 0002\nopen 0 -\nopen 1 00\nopen 3 -\ncheck 1 0011223344556677\nclose 2 -\ndraw 1 0021\n"
     "answer number bytes\nno 11 -\nno 1 -\nno 2 -\nok 1 -\nno 18 -\nno 11 -\nno 17 -\n"
-unfolding output printedOf scriptOf scriptFrom meaning answers answered wordFor numberFor bytesFor callOf lines answerLine parse fields fieldOf countOf isCount countValue noBytesOf bytesOf isHex isDash verbOf same before after isDigit allDigits plainStart valueFrom isNumber numberOf spelled decimal nibble glyph hexPairs decoded hexOf bytesText events machine emptyMachine openMachine openChecks named row admit newEntry runsOf formula runsFeeding runsEnded ceiling start openCount total feedMachine drawMachine checkMachine closeMachine ticketChecks feedChecks feedOwn drawChecks drawOwn checkChecks checkOwn standingOf entryOf placeOf find afterFeed afterDraw afterClose put sumMachine outputOf written oneShot spongeOutput squeezeBytes
+unfolding output printedOf scriptOf scriptFrom meaning answers answered wordFor numberFor bytesFor callOf lines answerLine parse fields fieldOf countOf isCount countValue noBytesOf bytesOf isHex isDash verbOf same before after isDigit allDigits plainStart valueFrom isNumber numberOf spelled decimal nibble digitOf hexPairs decoded hexOf bytesText events machine emptyMachine openMachine openChecks named row admit newEntry runsOf formula runsFeeding runsEnded ceiling start openCount total feedMachine drawMachine checkMachine closeMachine ticketChecks feedChecks feedOwn drawChecks drawOwn checkChecks checkOwn standingOf entryOf placeOf find afterFeed afterDraw afterClose put sumMachine outputOf written oneShot spongeOutput squeezeBytes
 examples = (refl, refl, refl, refl, refl, refl, refl, refl, refl, refl, refl, refl, refl, refl)

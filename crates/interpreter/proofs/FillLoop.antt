@@ -56,7 +56,8 @@ drop-least chunk at next e = go (decLe at (length chunk))
         let j : next ≡ length chunk = omega arith in
         rw (j, drop-length chunk) (sym (drop-of-length-le chunk {i = at} (omega arith)))
 
-pub filling-first : (s : Session) (line chunk : List ℕ) (at : ℕ) (out : List ℕ) (next : ℕ) → length line ≡ longestLine → length out ≡ outputSize → next ≡ min at (length chunk)
+pub filling-first : (s : Session) (line chunk : List ℕ) (at : ℕ) (out : List ℕ) (next : ℕ) → length line ≡ longestLine → length out ≡ outputSize
+    → next ≡ min at (length chunk)
     → Filling s line chunk at out s line out next 0
 unfolding filledFrom
 filling-first s line chunk at out next l o e =

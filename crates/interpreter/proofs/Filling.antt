@@ -54,7 +54,11 @@ pub filled-ahead : (size : ℕ) (r : Reader) (text chunk : List ℕ) → length 
 filled-ahead size r text [] h n = absurd (omega arith)
 filled-ahead size r text (b ∷ s) h n =
     let p = filled-parts size (byteStep r b .reader) (text ++ byteStep r b .text) s in
-    rw (filled-byte size r text b s h) (omega (arith, ap length (p .split), length-append (p .taken) (filled size (byteStep r b .reader) (text ++ byteStep r b .text) s .left)))
+    rw (filled-byte size r text b s h) (omega (
+      arith,
+      ap length (p .split),
+      length-append (p .taken) (filled size (byteStep r b .reader) (text ++ byteStep r b .text) s .left),
+    ))
 
 -- ---- part after part
 

@@ -37,7 +37,8 @@ held-more : (r : Reader) (b : ℕ) (p : List ℕ) → held (hold r b .reader) p 
 held-more r b p =
     let n : r .session .held + 1 + length p ≡ r .session .held + suc (length p) = omega arith in
     ap (λ (k : ℕ). readerOf (holding (r .session) k) (sets (set (r .line) (r .session .held) b) (r .session .held + 1) p)) n
-    ∙ ap (λ (k : ℕ). readerOf (holding (r .session) (r .session .held + suc (length p))) (sets (set (r .line) (r .session .held) b) k p)) (add-one (r .session .held))
+    ∙ ap (λ (k : ℕ). readerOf (holding (r .session) (r .session .held + suc (length p))) (sets (set (r .line) (r .session .held) b) k p))
+    (add-one (r .session .held))
 
 pub filled-held : (size : ℕ) (r : Reader) (text p s : List ℕ) → length text + longestAnswer ≤ size → r .session .going ≡ true
     → length p ≤ longestLine - r .session .held → before newline p ≡ p → filled size r text (p ++ s) ≡ filled size (held r p) text s
@@ -49,7 +50,8 @@ filled-held size r text (b ∷ p) s room going h e =
     ∙ ap (λ (q : Reader). filled size q text s) (held-more r b p)
 
 -- a script that has stopped takes all
-pub filled-stopped : (size : ℕ) (r : Reader) (text s : List ℕ) → length text + longestAnswer ≤ size → r .session .going ≡ false → filled size r text s ≡ filled size r text []
+pub filled-stopped : (size : ℕ) (r : Reader) (text s : List ℕ) → length text + longestAnswer ≤ size → r .session .going ≡ false
+    → filled size r text s ≡ filled size r text []
 filled-stopped size r text [] room e = refl
 filled-stopped size r text (b ∷ s) room e = filled-silent size r r text b s room (stopped-byte r b e) ∙ filled-stopped size r text s room e
 

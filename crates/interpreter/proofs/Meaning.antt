@@ -5,7 +5,7 @@ use mathlib.Core.Bool.{true, false}
 use mathlib.Core.List.{List}
 use Prim.Native.Nat.{ℕ, _≤_, _<_}
 use borrow.Author.Tests.{eq-eqb, ne-eqb, le-leb, lt-leb}
-use Rattle.script.specs.Text.{same}
+use Rattle.checks.specs.Equality.{same}
 use Rattle.script.specs.Number.{found, malformed}
 use Rattle.script.specs.Line.{Line, parse}
 use Rattle.interpreter.specs.declared.Session.{Session}

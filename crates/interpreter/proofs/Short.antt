@@ -9,6 +9,7 @@ use lib.Dec.{eqb, leb}
 use lib.ListN.{length, drop, replicate, length-append, length-drop, length-replicate}
 use Rattle.checks.specs.Checks.{OneCheck, checked}
 use Rattle.checks.specs.Buffers.{written}
+use Rattle.checks.specs.Equality.{same}
 use Rattle.calls.specs.declared.Answer.{Answer}
 use Rattle.calls.specs.Answer.{counted}
 use Rattle.calls.specs.Checks.{drawChecks}
@@ -20,7 +21,6 @@ use Rattle.hub.specs.declared.Hub.{Hub}
 use Rattle.hub.specs.Hub.{recordOf, put, standingOf, drawHub, onHub}
 use Rattle.script.specs.declared.line.Verb.{Verb}
 use Rattle.script.specs.declared.line.Verb.the-variants.{Open, Feed, Draw, Check, Close, Sum}
-use Rattle.script.specs.Text.{same}
 use Rattle.script.specs.Number.{Reading, found, malformed}
 use Rattle.script.specs.Line.{Field, bytes, count, Line, FieldFits, mostBytes, parse}
 use Rattle.script.proofs.Answers.{answer-long}

@@ -17,6 +17,7 @@ pub hold-step : (r : Reader) (b : ℕ) → r .session .going ≡ true → (b ≡
 unfolding byteStep
 hold-step r b e n h = rw (e, ne-eqb b newline n, lt-ltb (r .session .held) longestLine h)
 
-pub long-step : (r : Reader) (b : ℕ) → r .session .going ≡ true → (b ≡ newline → ⊥) → longestLine ≤ r .session .held → byteStep r b ≡ afterStep r (stopped (r .session))
+pub long-step : (r : Reader) (b : ℕ) → r .session .going ≡ true → (b ≡ newline → ⊥) → longestLine ≤ r .session .held
+    → byteStep r b ≡ afterStep r (stopped (r .session))
 unfolding byteStep
 long-step r b e n h = rw (e, ne-eqb b newline n, le-ltb (r .session .held) longestLine h)

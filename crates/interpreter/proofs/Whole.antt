@@ -10,11 +10,12 @@ use lib.Dec.{eqb, leb, ltb}
 use lib.ListN.{length, take, length-set}
 use lib.Seq.{take-suc-set, length-take-le}
 use borrow.Author.Tests.{ne-eqb, eqb-true, eqb-false, ltb-true, ltb-false, lt-leb}
+use Rattle.checks.specs.Equality.{same}
+use Rattle.checks.proofs.Equality.{other-same}
 use Rattle.calls.specs.Call.{Call, events}
 use Rattle.hub.specs.declared.Hub.{Hub}
 use Rattle.hub.specs.Hub.{emptyHub, onHub}
-use Rattle.script.specs.Text.{newline, same}
-use Rattle.script.proofs.Texts.{same-lengths}
+use Rattle.script.specs.Text.{newline}
 use Rattle.script.specs.Number.{malformed}
 use Rattle.script.specs.Line.{longestLine, fields, parse}
 use Rattle.script.specs.Input.{inFront, lines}
@@ -65,7 +66,7 @@ begin-longer (a ∷ h) b ls =
 -- ---- a line that is too long
 
 long-not-names : (s : List ℕ) → longestLine < length s → same s names ≡ false
-long-not-names s h = same-lengths s names (λ e. omega (arith, e))
+long-not-names s h = other-same s names (λ e. omega (arith, ap length e))
 
 long-malformed : (k : ℕ) (s : List ℕ) → longestLine < length s → meaning k s ≡ aFault
 unfolding meaning parse
@@ -76,7 +77,8 @@ long-malformed k s h = rw (long-not-names s h, lt-leb (length s) longestLine h) 
     go false true = refl
     go false false = refl
 
-long-script : (k : ℕ) (h : List ℕ) (b : ℕ) (ls : List (List ℕ)) → longestLine ≤ length h → scriptFrom k (begin h (inFront b ls)) ≡ record { calls = []; ending = atLine k }
+long-script : (k : ℕ) (h : List ℕ) (b : ℕ) (ls : List (List ℕ)) → longestLine ≤ length h
+    → scriptFrom k (begin h (inFront b ls)) ≡ record { calls = []; ending = atLine k }
 unfolding scriptFrom
 long-script k h b ls e =
     let w = begin-longer h b ls in
@@ -84,9 +86,11 @@ long-script k h b ls e =
 
 -- ---- what is printed of a line and the lines after it
 
-printed-call : (s : Session) (c : Call) (rest : Script) (k : ℕ) → printedOf onHub (s .hub) (followed k (aCall c) rest) ≡ stepBy s (aCall c) .text ++ printedOf onHub (stepBy s (aCall c) .session .hub) rest
+printed-call : (s : Session) (c : Call) (rest : Script) (k : ℕ)
+    → printedOf onHub (s .hub) (followed k (aCall c) rest) ≡ stepBy s (aCall c) .text ++ printedOf onHub (stepBy s (aCall c) .session .hub) rest
 unfolding printedOf events answers
-printed-call s c rest k = append-assoc (stepBy s (aCall c) .text) (answers (events onHub (stepBy s (aCall c) .session .hub) (rest .calls))) (endingText (rest .ending))
+printed-call s c rest k = append-assoc (stepBy s (aCall c) .text) (answers (events onHub (stepBy s (aCall c) .session .hub) (rest .calls)))
+    (endingText (rest .ending))
 
 printed-fault : (h : Hub) (k : ℕ) → printedOf onHub h (record { calls = []; ending = atLine k }) ≡ stopLine k
 unfolding printedOf events answers
@@ -178,7 +182,8 @@ module _ (r : Reader) (w : Sound r) where
   unfolding lines
   lines-byte b s n = rw (ne-eqb b newline n)
 
-  at-byte : (b : ℕ) (s : List ℕ) → (b ≡ newline → ⊥) → r .session .held < longestLine → toTheEnd (held b) s ≡ saying (held b) s → toTheEnd r (b ∷ s) ≡ saying r (b ∷ s)
+  at-byte : (b : ℕ) (s : List ℕ) → (b ≡ newline → ⊥) → r .session .held < longestLine → toTheEnd (held b) s ≡ saying (held b) s
+      → toTheEnd r (b ∷ s) ≡ saying r (b ∷ s)
   at-byte b s n h ih =
       ahead r b s
       ∙ ap (λ (f : Fed). f .text ++ toTheEnd (f .reader) s) (hold-step r b (w .going) n h)
@@ -218,7 +223,8 @@ module _ (r : Reader) (w : Sound r) where
     where
       go : (m : Meaning) → Follows (r .session) m (scriptFrom (r .session .number + 1) []) []
       go theNames = sym (ap (printedOf onHub (r .session .hub)) nothing-more ∙ prints-nothing (r .session .hub))
-      go (aCall c) = sym (ap (printedOf onHub (stepBy (r .session) (aCall c) .session .hub)) nothing-more ∙ prints-nothing (stepBy (r .session) (aCall c) .session .hub))
+      go (aCall c) = sym (ap (printedOf onHub (stepBy (r .session) (aCall c) .session .hub)) nothing-more
+          ∙ prints-nothing (stepBy (r .session) (aCall c) .session .hub))
       go aFault = refl
 
   -- line 1 is missing
@@ -255,7 +261,8 @@ whole : (r : Reader) (s : List ℕ) → Sound r → toTheEnd r s ≡ saying r s
 whole r [] w = at-end r w
 whole r (b ∷ s) w = go (eqb b newline) (ltb (r .session .held) longestLine) refl refl (λ q v. whole q s v)
   where
-    go : (t u : Bool) → eqb b newline ≡ t → ltb (r .session .held) longestLine ≡ u → ((q : Reader) → Sound q → toTheEnd q s ≡ saying q s) → toTheEnd r (b ∷ s) ≡ saying r (b ∷ s)
+    go : (t u : Bool) → eqb b newline ≡ t → ltb (r .session .held) longestLine ≡ u → ((q : Reader) → Sound q → toTheEnd q s ≡ saying q s)
+        → toTheEnd r (b ∷ s) ≡ saying r (b ∷ s)
     go true u p q ih = rw (eqb-true b newline p) (at-newline r w s ih)
     go false true p q ih =
         let h = ltb-true (r .session .held) longestLine q in

@@ -1,3 +1,4 @@
+-- Crate `interpreter`: its definitions.
 pub mod Script
 pub mod Session
 pub mod Promises

@@ -6,6 +6,7 @@ use mathlib.Core.List.{List, [], _∷_, _++_}
 use Prim.Native.Nat.{ℕ, _+_}
 use lib.Dec.{eqb, leb}
 use lib.ListN.{replicate}
+use Rattle.checks.specs.Equality.{same}
 use Rattle.calls.specs.declared.Answer.{Answer}
 use Rattle.calls.specs.Call.{
   Call,
@@ -23,7 +24,7 @@ use Rattle.script.specs.declared.line.Verb.{Verb}
 use Rattle.script.specs.declared.line.Verb.the-variants.{Open, Feed, Draw, Check, Close, Sum}
 use Rattle.script.specs.declared.answer.Word.{Word}
 use Rattle.script.specs.declared.answer.Word.the-variants.{Ok, Pass, Fail, No, Stop}
-use Rattle.script.specs.Text.{text, same}
+use Rattle.script.specs.Text.{text}
 use Rattle.script.specs.Number.{Reading, found, malformed}
 use Rattle.script.specs.Line.{Field, Line, parse}
 use Rattle.script.specs.Answer.{answerLine}

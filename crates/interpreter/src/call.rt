@@ -124,7 +124,13 @@ fn bytes_for(verb: Verb, answer: Answer, buffer: &[u8]) -> &[u8]
 }
 
 // Writes an answer's line into a buffer from a place on, and answers the place after it.
-pub(crate) fn tell(verb: Verb, answer: Answer, bytes: &[u8], out: &mut [u8], from: usize) -> usize
+pub(crate) fn write_line(
+    verb: Verb,
+    answer: Answer,
+    bytes: &[u8],
+    out: &mut [u8],
+    from: usize,
+) -> usize
     ensures { λ r. ⌜ Wrote (now (out .entry)) from (spec.answered verb answer (now (bytes .entry))) (now (out .exit)) r ⌝ }
 {
     script::write_answer(

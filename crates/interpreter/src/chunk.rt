@@ -5,22 +5,13 @@ use crate::line::Stepped;
 use crate::line::step;
 use crate::line::stop;
 ghost use mathlib.Core.Path.{_≡_};
-ghost use Prim.Native.Nat.{_<_, min};
+ghost use Prim.Native.Nat.{_<_};
 ghost use lib.ListN.{length};
 ghost use Rattle.checks.specs.Buffers.{written};
 ghost use Rattle.script.specs.Line.{longestLine};
 ghost use Rattle.interpreter.specs.Script.{answerNames};
 ghost use Rattle.interpreter.specs.Session as spec;
 ghost use Rattle.interpreter.specs.Promises.{Advancing};
-
-fn least(a: usize, b: usize) -> usize
-    ensures { λ r. ⌜ r ≡ min a b ⌝ }
-{
-    if a < b {
-        return a;
-    }
-    b
-}
 
 // Takes a chunk's bytes from at on up to the end of a line, or of the chunk.
 fn advance(
@@ -53,7 +44,7 @@ fn advance(
     }
     let next = end + 1;
     if chunk[end] == b'\n' {
-        let size = least(held + n, line.len());
+        let size = script::place_in(line, held + n);
         let stepped = step(session, &line[..size], out, from);
         let after = stepped.session;
         return Progress {

@@ -1,7 +1,7 @@
 // One line of a script.
 use crate::Session;
 use crate::call::call;
-use crate::call::tell;
+use crate::call::write_line;
 use script::Parsed;
 use script::Word;
 ghost use Rattle.interpreter.specs.Session.{stepped, stopped};
@@ -52,7 +52,7 @@ pub fn step(session: Session, line: &[u8], out: &mut [u8], from: usize) -> Stepp
         } => {
             let before = session.hub;
             let reply = call(before, verb, n, &mut bytes[..size]);
-            let end = tell(verb, reply.answer, &bytes[..size], out, from);
+            let end = write_line(verb, reply.answer, &bytes[..size], out, from);
             let after = reply.hub;
             Stepped {
                 session: session.go_on(after),

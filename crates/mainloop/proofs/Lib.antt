@@ -1,1 +1,2 @@
+-- Crate `mainloop`: its laws.
 pub mod RoundList

@@ -1,1 +1,2 @@
+-- Crate `mainloop`: its definitions.
 pub mod Rounds

@@ -2,47 +2,14 @@
 // Both print every call with its answer, and what the hub's tickets give at the end. The two lists are the same, and tests/ works every answer and byte out anew.
 use calls::Answer;
 use hub::Hub;
+use listing::print_answer;
+use listing::print_bytes;
+use listing::print_number;
 ghost use mathlib.Core.Path.{_≡_};
 ghost use lib.ListN.{replicate};
 ghost use Rattle.calls.specs.Call.{Open, final};
 ghost use Rattle.hub.specs.Hub.{drawHub, onHub};
 ghost use Rattle.mainloop.specs.Rounds.{feedTicket, closeTicket, roundsFrom, lentOut, sixteen};
-
-// ---- printing
-
-fn print_number(n: u64) {
-    io::write_all(1, b" ");
-    io::print_decimal(1, n);
-}
-
-fn print_byte(byte: u8) {
-    print_number(byte as u64);
-}
-
-fn print_bytes(bytes: &[u8]) {
-    io::write_all(1, b" [");
-    let mut i = 0;
-    while i < bytes.len() {
-        print_byte(bytes[i]);
-        i += 1;
-    }
-    io::write_all(1, b" ]");
-}
-
-fn print_answer(answer: Answer) {
-    io::write_all(1, b" = refusal");
-    print_number(answer.refusal as u64);
-    io::write_all(1, b" ticket");
-    print_number(answer.ticket as u64);
-    io::write_all(1, b" runs");
-    print_number(answer.runs);
-    if answer.passed {
-        io::write_all(1, b" passed 1 sum");
-    } else {
-        io::write_all(1, b" passed 0 sum");
-    }
-    print_number(answer.sum);
-}
 
 // What the two calls of round i were answered.
 fn print_round(i: usize, fed: Answer, closed: Answer) {

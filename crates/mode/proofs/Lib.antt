@@ -1,1 +1,2 @@
+-- Crate `mode`: its laws.
 pub mod Modes

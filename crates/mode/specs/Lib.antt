@@ -1,1 +1,2 @@
+-- Crate `mode`: its definitions.
 pub mod Mode

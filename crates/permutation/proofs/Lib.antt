@@ -1,3 +1,4 @@
+-- Crate `permutation`: its laws.
 pub mod Sbox
 pub mod State
 pub mod Row

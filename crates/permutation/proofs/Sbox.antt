@@ -1,4 +1,5 @@
--- S takes five bits to five bits. `substitute`'s proof compares the bits that are read of each entry with the code's circuits; with this, nothing else stands in an entry.
+-- S takes five bits to five bits. `substitute`'s proof compares the bits that are read of each entry with the code's circuits; with this, nothing else stands
+-- in an entry.
 -- Assumes nothing.
 use mathlib.Core.Path.{_≡_, refl}
 use lib.Dec.{T, ltb}

@@ -1,4 +1,5 @@
--- The short function by words, as the code goes: the start word, two words of the key and two of the message; and the key's words xored into the last two of the state.
+-- The short function by words, as the code goes: the start word, two words of the key and two of the message; and the key's words xored into the last two of
+-- the state.
 -- Assumes nothing.
 use mathlib.Core.Path.{_≡_, refl, sym, ap, _∙_}
 use mathlib.Core.List.{List, [], _∷_, _++_}
@@ -63,7 +64,8 @@ module _ (key message : List ℕ) (t : ℕ) (bytes : Bytes key) (bytes′ : Byte
   started =
       let five : length (xorFrom 24 message (xorFrom 8 key unkeyed)) ≡ 5 = length-xorFrom message (xorFrom 8 key unkeyed) 24 ∙ length-xorFrom key unkeyed 8 in
       sym (written-out 5 (xorFrom 24 message (xorFrom 8 key unkeyed)) five
-      ∙ cons-same (word-at 0 (omega arith) ∙ rw (window-past key 8 0 (omega arith), window-past message 24 0 (omega arith)) (xor-zero-r (bitXor (startWord (length message) t) 0) ∙ xor-zero-r (startWord (length message) t)))
+      ∙ cons-same (word-at 0 (omega arith) ∙ rw (window-past key 8 0 (omega arith), window-past message 24 0 (omega arith))
+      (xor-zero-r (bitXor (startWord (length message) t) 0) ∙ xor-zero-r (startWord (length message) t)))
       (cons-same (word-at 1 (omega arith) ∙ rw (window-moved key 1 0 0, window-past message 24 1 (omega arith), xor-zero-r))
       (cons-same (word-at 2 (omega arith) ∙ rw (window-moved key 1 0 1, window-past message 24 2 (omega arith), xor-zero-r))
       (cons-same (word-at 3 (omega arith) ∙ rw (window-before key 8 3 (omega arith), window-moved message 3 0 0))
@@ -77,7 +79,8 @@ pub last-xored : (s key : List ℕ) (t : ℕ) → length s ≡ 5 → Bytes key �
     → bytesFrom (40 - t) t (xorFrom 24 key s) ≡ xorBytes (lastBytes t (bytesFrom 0 40 s)) (lastBytes t key)
 unfolding lastBytes
 last-xored s key t five bytes n short =
-    ext-getD 0 (bytesFrom (40 - t) t (xorFrom 24 key s)) (xorBytes a b) (length-bytesFrom t (40 - t) (xorFrom 24 key s) ∙ sym (length-xorBytes a b (la ∙ sym lb) ∙ lb)) each
+    ext-getD 0 (bytesFrom (40 - t) t (xorFrom 24 key s)) (xorBytes a b)
+    (length-bytesFrom t (40 - t) (xorFrom 24 key s) ∙ sym (length-xorBytes a b (la ∙ sym lb) ∙ lb)) each
   where
     a : List ℕ
     a = drop (length (bytesFrom 0 40 s) - t) (bytesFrom 0 40 s)
@@ -98,7 +101,14 @@ last-xored s key t five bytes n short =
         let place′ : 40 - t + i ≡ 0 + (length (bytesFrom 0 40 s) - t + i) = omega (arith, length-bytesFrom 40 0 s) in
         bytesFrom-at t (40 - t) i (xorFrom 24 key s) inside
         ∙ xored-from key 24 (40 - t + i) s (omega arith) bytes
-        ∙ rw (le-leb 24 (40 - t + i) (omega arith), place, ← getD-drop (length key - t) key i 0, place′, ← bytesFrom-at 40 0 (length (bytesFrom 0 40 s) - t + i) s (omega (arith, length-bytesFrom 40 0 s)), ← getD-drop (length (bytesFrom 0 40 s) - t) (bytesFrom 0 40 s) i 0)
+        ∙ rw (
+          le-leb 24 (40 - t + i) (omega arith),
+          place,
+          ← getD-drop (length key - t) key i 0,
+          place′,
+          ← bytesFrom-at 40 0 (length (bytesFrom 0 40 s) - t + i) s (omega (arith, length-bytesFrom 40 0 s)),
+          ← getD-drop (length (bytesFrom 0 40 s) - t) (bytesFrom 0 40 s) i 0,
+        )
         (sym (xorBytes-at a b i (la ∙ sym lb)))
 
 -- the key's two words, xored into the last two of a state

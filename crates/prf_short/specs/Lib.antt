@@ -1,2 +1,3 @@
+-- Crate `prf_short`: its definitions.
 pub mod Short
 pub mod Call

@@ -1,2 +1,3 @@
+-- Crate `rampscript`: its laws.
 pub mod Chunks
 pub mod Turns

@@ -14,7 +14,7 @@ use Rattle.interpreter.specs.Theorems.{fedAll, atFirst, NotEmpty}
 use Rattle.interpreter.proofs.Bounds.{left, fed-left}
 use Rattle.rampscript.specs.declared.Turn.{Turn}
 use Rattle.rampscript.specs.declared.Ended.{Ended}
-use Rattle.rampscript.specs.Program.{Answering, answeredBy, Turning, more, Running, finishes, Ending}
+use Rattle.rampscript.specs.Program.{Turning, more, Running, finishes, Ending}
 
 -- ---- one turn
 

@@ -1,1 +1,2 @@
+-- Crate `rampscript`: its definitions.
 pub mod Program

@@ -1,4 +1,5 @@
--- What the program's functions hand on. What a read brought, and that a write wrote what it was lent, no contract of the kit says: a chunk that was read is a list of bytes
+-- What the program's functions hand on. What a read brought, and that a write wrote what it was lent, no contract of the kit says: a chunk that was read is a
+-- list of bytes
 -- here, of which nothing is known. That what is lent to a write is what `fill` put into its buffer stands in the code.
 -- Assumes nothing.
 use mathlib.Core.Path.{_≡_}

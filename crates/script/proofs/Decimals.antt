@@ -30,7 +30,8 @@ unfolding spelled
 large-or n k r h = rw (le-ltb n 10 h)
 
 -- what holds in both cases holds
-by-size : (P : List ℕ → Type 0) (k n : ℕ) (r : List ℕ) → (n < 10 → P ((48 + n) ∷ r)) → (10 ≤ n → P (spelled k (n / 10) ((48 + n % 10) ∷ r))) → P (spelled (suc k) n r)
+by-size : (P : List ℕ → Type 0) (k n : ℕ) (r : List ℕ) → (n < 10 → P ((48 + n) ∷ r)) → (10 ≤ n → P (spelled k (n / 10) ((48 + n % 10) ∷ r)))
+    → P (spelled (suc k) n r)
 by-size P k n r f g = go (decLt n 10)
   where
     go : Dec (n < 10) → P (spelled (suc k) n r)

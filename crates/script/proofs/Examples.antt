@@ -4,11 +4,12 @@ use mathlib.Core.Path.{_≡_, refl}
 use mathlib.Core.Bool.{true, false}
 use mathlib.Core.List.{[], _∷_}
 use lib.ListN.{replicate}
+use Rattle.checks.specs.Equality.{same}
 use Rattle.script.specs.declared.line.Verb.the-variants.{Open, Feed, Draw, Check, Close, Sum}
 use Rattle.script.specs.declared.answer.Word.the-variants.{Ok, Pass, Fail, No, Stop}
-use Rattle.script.specs.Text.{text, same, before, after}
+use Rattle.script.specs.Text.{text, before, after}
 use Rattle.script.specs.Number.{found, malformed, isDigit, allDigits, plainStart, valueFrom, isNumber, numberOf, spelled, decimal}
-use Rattle.script.specs.Hex.{nibble, glyph, hexPairs, decoded, hexOf, bytesText}
+use Rattle.script.specs.Hex.{nibble, digitOf, hexPairs, decoded, hexOf, bytesText}
 use Rattle.script.specs.Line.{bytes, count, verbOf, isDash, isHex, bytesOf, noBytesOf, countValue, isCount, countOf, fieldOf, fields, parse}
 use Rattle.script.specs.Answer.{answerLine}
 use Rattle.script.specs.Input.{lines, piece}
@@ -56,7 +57,7 @@ pub answers :
     × (answerLine Fail 0 [] ≡ text "fail 0 -\n")
     × (answerLine Stop 1000001 [] ≡ text "stop 1000001 -\n")
     × (answerLine Ok 18446744073709551615 (0x00 ∷ 0xff ∷ []) ≡ text "ok 18446744073709551615 00ff\n")
-unfolding answerLine spelled decimal glyph hexOf bytesText
+unfolding answerLine spelled decimal digitOf hexOf bytesText
 answers = (refl, refl, refl, refl, refl)
 
 -- 1,024 bytes are as many as a field may have

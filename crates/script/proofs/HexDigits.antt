@@ -10,7 +10,7 @@ use native.Mathlib.Decide.{decLe, decLt}
 use lib.Dec.{ltb}
 use lib.ListN.{length}
 use borrow.Author.Tests.{lt-ltb, le-ltb, le-leb, lt-leb, ltb-true}
-use Rattle.script.specs.Hex.{nibble, glyph, hexPairs, decoded, hexOf, bytesText}
+use Rattle.script.specs.Hex.{nibble, digitOf, hexPairs, decoded, hexOf, bytesText}
 use Rattle.script.specs.Line.{mostBytes, AllBytes}
 use Rattle.script.proofs.Texts.{and-left, and-right}
 
@@ -58,29 +58,29 @@ letter-range c h k = go (decLe 97 c) (decLe c 102)
     go (yes l) (no m) = absurd (omega (arith, nibble-high c (omega arith)))
     go (no l) m = absurd (omega (arith, nibble-between c k (omega arith)))
 
-glyph-digit : (n : ℕ) → n < 10 → glyph n ≡ 48 + n
-unfolding glyph
-glyph-digit n h = rw (lt-ltb n 10 h)
+digitOf-digit : (n : ℕ) → n < 10 → digitOf n ≡ 48 + n
+unfolding digitOf
+digitOf-digit n h = rw (lt-ltb n 10 h)
 
-glyph-letter : (n : ℕ) → 10 ≤ n → glyph n ≡ 97 + (n - 10)
-unfolding glyph
-glyph-letter n h = rw (le-ltb n 10 h)
+digitOf-letter : (n : ℕ) → 10 ≤ n → digitOf n ≡ 97 + (n - 10)
+unfolding digitOf
+digitOf-letter n h = rw (le-ltb n 10 h)
 
-nibble-glyph : (n : ℕ) → n < 16 → nibble (glyph n) ≡ n
-nibble-glyph n h = go (decLt n 10)
+nibble-digitOf : (n : ℕ) → n < 16 → nibble (digitOf n) ≡ n
+nibble-digitOf n h = go (decLt n 10)
   where
-    go : Dec (n < 10) → nibble (glyph n) ≡ n
-    go (yes k) = rw (glyph-digit n k) (nibble-digit (48 + n) (omega arith) (omega arith) ∙ omega arith)
-    go (no k) = rw (glyph-letter n (omega arith)) (nibble-letter (97 + (n - 10)) (omega arith) (omega arith) ∙ omega arith)
+    go : Dec (n < 10) → nibble (digitOf n) ≡ n
+    go (yes k) = rw (digitOf-digit n k) (nibble-digit (48 + n) (omega arith) (omega arith) ∙ omega arith)
+    go (no k) = rw (digitOf-letter n (omega arith)) (nibble-letter (97 + (n - 10)) (omega arith) (omega arith) ∙ omega arith)
 
-glyph-nibble : (c : ℕ) → nibble c < 16 → glyph (nibble c) ≡ c
-glyph-nibble c h = go (decLe c 57)
+digitOf-nibble : (c : ℕ) → nibble c < 16 → digitOf (nibble c) ≡ c
+digitOf-nibble c h = go (decLe c 57)
   where
-    go : Dec (c ≤ 57) → glyph (nibble c) ≡ c
-    go (yes k) = let l = digit-least c h k in rw (nibble-digit c l k) (glyph-digit (c - 48) (omega arith) ∙ omega arith)
+    go : Dec (c ≤ 57) → digitOf (nibble c) ≡ c
+    go (yes k) = let l = digit-least c h k in rw (nibble-digit c l k) (digitOf-digit (c - 48) (omega arith) ∙ omega arith)
     go (no k) =
         let l = letter-range c h (omega arith) in
-        rw (nibble-letter c (l .0) (l .1)) (glyph-letter (c - 97 + 10) (omega arith) ∙ omega arith)
+        rw (nibble-letter c (l .0) (l .1)) (digitOf-letter (c - 97 + 10) (omega arith) ∙ omega arith)
 
 -- ---- texts of digits
 
@@ -94,8 +94,8 @@ pub hex-is-pairs : (bs : List ℕ) → AllBytes bs → hexPairs (hexOf bs) ≡ t
 unfolding hexOf hexPairs AllBytes
 hex-is-pairs [] h = refl
 hex-is-pairs (b ∷ bs) h =
-    let p = nibble-glyph (b / 16) (omega (arith, h .0)) in
-    let q = nibble-glyph (b % 16) (omega arith) in
+    let p = nibble-digitOf (b / 16) (omega (arith, h .0)) in
+    let q = nibble-digitOf (b % 16) (omega arith) in
     rw (p, q, lt-ltb (b / 16) 16 (omega (arith, h .0)), lt-ltb (b % 16) 16 (omega arith)) (hex-is-pairs bs (h .1))
 
 same-first : {x y : ℕ} (s : List ℕ) → x ≡ y → x ∷ s ≡ y ∷ s
@@ -105,8 +105,8 @@ pub hex-decoded : (bs : List ℕ) → AllBytes bs → decoded (hexOf bs) ≡ bs
 unfolding hexOf decoded AllBytes
 hex-decoded [] h = refl
 hex-decoded (b ∷ bs) h =
-    let p = nibble-glyph (b / 16) (omega (arith, h .0)) in
-    let q = nibble-glyph (b % 16) (omega arith) in
+    let p = nibble-digitOf (b / 16) (omega (arith, h .0)) in
+    let q = nibble-digitOf (b % 16) (omega arith) in
     rw (p, q, hex-decoded bs (h .1)) (same-first bs (omega arith))
 
 -- the first of some pairs, and the others
@@ -137,7 +137,7 @@ decoded-hex (a ∷ b ∷ s) e =
     let q = low-digit a b s e in
     let h : (nibble a * 16 + nibble b) / 16 ≡ nibble a = omega arith in
     let l : (nibble a * 16 + nibble b) % 16 ≡ nibble b = omega arith in
-    rw (h, l, glyph-nibble a p, glyph-nibble b q, decoded-hex s (other-pairs a b s e))
+    rw (h, l, digitOf-nibble a p, digitOf-nibble b q, decoded-hex s (other-pairs a b s e))
 
 pub decoded-bytes : (s : List ℕ) → hexPairs s ≡ true → AllBytes (decoded s)
 unfolding decoded AllBytes

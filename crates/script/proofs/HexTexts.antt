@@ -10,7 +10,7 @@ use native.Mathlib.Decide.{decLe}
 use lib.Dec.{eqb, ltb}
 use lib.ListN.{length, getD, set, take, drop, drop-of-length-le, length-drop}
 use lib.Seq.{drop-cons, take-suc, sets}
-use Rattle.script.specs.Hex.{nibble, glyph, hexPairs, decoded, hexOf}
+use Rattle.script.specs.Hex.{nibble, digitOf, hexPairs, decoded, hexOf}
 use Rattle.script.proofs.Texts.{and-false}
 use Rattle.script.proofs.HexDigits.{high-digit, low-digit, other-pairs}
 
@@ -105,7 +105,8 @@ pub record Decoding (s first : List ℕ) (buffer : List ℕ) (k : ℕ) : Type 0 
 pub decoding-starts : (s buffer : List ℕ) → hexPairs s ≡ true → Decoding s buffer buffer 0
 decoding-starts s buffer e = record { pairs = e; stored = refl; count = omega arith }
 
-pub decoding-goes-on : (s first buffer : List ℕ) (k x y : ℕ) → Decoding s first buffer k → 2 * k + 1 < length s → x ≡ nibble (getD s (2 * k) 0) → y ≡ nibble (getD s (2 * k + 1) 0)
+pub decoding-goes-on : (s first buffer : List ℕ) (k x y : ℕ) → Decoding s first buffer k → 2 * k + 1 < length s → x ≡ nibble (getD s (2 * k) 0)
+    → y ≡ nibble (getD s (2 * k + 1) 0)
     → Decoding s first (set buffer k (x * 16 + y)) (k + 1)
 decoding-goes-on s first buffer k x y d h p q =
     let n : 2 * (k + 1) ≡ 2 * k + 2 = omega arith in
@@ -128,10 +129,11 @@ decoding-ends s first buffer k d h = go (decLe (length s) (2 * k))
 hex-append : (a b : List ℕ) → hexOf (a ++ b) ≡ hexOf a ++ hexOf b
 unfolding hexOf
 hex-append [] b = refl
-hex-append (x ∷ a) b = ap (λ (r : List ℕ). glyph (x / 16) ∷ glyph (x % 16) ∷ r) (hex-append a b)
+hex-append (x ∷ a) b = ap (λ (r : List ℕ). digitOf (x / 16) ∷ digitOf (x % 16) ∷ r) (hex-append a b)
 
-pub hex-next : (s : List ℕ) (i : ℕ) → i < length s → hexOf (take (i + 1) s) ≡ hexOf (take i s) ++ (glyph (getD s i 0 / 16) ∷ []) ++ (glyph (getD s i 0 % 16) ∷ [])
+pub hex-next : (s : List ℕ) (i : ℕ) → i < length s
+    → hexOf (take (i + 1) s) ≡ hexOf (take i s) ++ (digitOf (getD s i 0 / 16) ∷ []) ++ (digitOf (getD s i 0 % 16) ∷ [])
 unfolding hexOf
 hex-next s i h =
     rw (add-one, take-suc s i 0)
-    (hex-append (take i s) (getD s i 0 ∷ []) ∙ sym (append-assoc (hexOf (take i s)) (glyph (getD s i 0 / 16) ∷ []) (glyph (getD s i 0 % 16) ∷ [])))
+    (hex-append (take i s) (getD s i 0 ∷ []) ∙ sym (append-assoc (hexOf (take i s)) (digitOf (getD s i 0 / 16) ∷ []) (digitOf (getD s i 0 % 16) ∷ [])))

@@ -1,3 +1,4 @@
+-- Crate `script`: its laws.
 pub mod Texts
 pub mod Numbers
 pub mod Decimals
@@ -5,7 +6,7 @@ pub mod HexDigits
 pub mod HexTexts
 pub mod Lines
 pub mod RoundTrip
-pub mod Told
+pub mod Parsed
 pub mod Answers
 pub mod Pieces
 pub mod Examples

@@ -89,7 +89,8 @@ module _ (s : List ℕ) (short : length s ≤ longestLine) where
   unfolding parse
   parse-fields = rw (le-leb (length s) longestLine short)
 
-  pub parse-third : (v : Verb) (n : ℕ) (f : List ℕ) → verbOf (before space s) ≡ found v → numberOf (before space (after space s)) ≡ found n → f ≡ after space (after space s) → parse s ≡ withField v n (fieldOf v n f)
+  pub parse-third : (v : Verb) (n : ℕ) (f : List ℕ) → verbOf (before space s) ≡ found v → numberOf (before space (after space s)) ≡ found n
+      → f ≡ after space (after space s) → parse s ≡ withField v n (fieldOf v n f)
   unfolding fields
   parse-third v n f p q r = parse-fields ∙ rw (p, q, r)
 

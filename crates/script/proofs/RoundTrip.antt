@@ -9,14 +9,16 @@ use native.Mathlib.Omega.{arith}
 use lib.Dec.{eqb, leb}
 use lib.ListN.{length, getD, length-append}
 use borrow.Author.Tests.{eq-eqb, ne-eqb, le-leb, leb-true, eqb-true}
+use Rattle.checks.specs.Equality.{same}
+use Rattle.checks.proofs.Equality.{same-equal}
 use Rattle.script.specs.declared.line.Verb.{Verb}
 use Rattle.script.specs.declared.line.Verb.the-variants.{Open, Feed, Draw, Check, Close, Sum}
-use Rattle.script.specs.Text.{space, dash, same, before, after}
+use Rattle.script.specs.Text.{space, dash, before, after}
 use Rattle.script.specs.Number.{Reading, found, malformed, mostNumber, isDigit, allDigits, plainStart, valueFrom, isNumber, numberOf, decimal}
-use Rattle.script.specs.Hex.{hexPairs, decoded, hexOf, bytesText, glyph}
+use Rattle.script.specs.Hex.{hexPairs, decoded, hexOf, bytesText, digitOf}
 use Rattle.script.specs.Line.{Line, Field, bytes, count, longestLine, mostBytes, mostCount, name, fieldText, render, AllBytes, SomeBytes, NoBytes, ACount, FieldFits, Valid, verbOf, isDash, isHex, bytesOf, noBytesOf, countValue, isCount, countOf, fieldOf, withField, withVerb, fields, parse}
 use Rattle.script.specs.Laws.{PrintedLines}
-use Rattle.script.proofs.Texts.{and-left, and-right, and-false, same-eq}
+use Rattle.script.proofs.Texts.{and-left, and-right, and-false}
 use Rattle.script.proofs.Decimals.{decimal-digits, decimal-read, decimal-long, spelled-back, digit-range}
 use Rattle.script.proofs.HexDigits.{hex-length, bytes-text-long, decoded-length, hex-is-pairs, hex-decoded, decoded-hex, decoded-bytes}
 use Rattle.script.proofs.Lines.{bytes-text-some, parse-third, hex-short, hex-pairs}
@@ -75,7 +77,7 @@ dash-read = refl
 
 hex-no-dash : (b : ℕ) (bs : List ℕ) → isDash (hexOf (b ∷ bs)) ≡ false
 unfolding hexOf
-hex-no-dash b bs = long-no-dash (glyph (b / 16)) (glyph (b % 16)) (hexOf bs)
+hex-no-dash b bs = long-no-dash (digitOf (b / 16)) (digitOf (b % 16)) (hexOf bs)
 
 bytes-read : (bs : List ℕ) → length bs ≤ mostBytes → AllBytes bs → bytesOf (bytesText bs) ≡ found (bytes bs)
 unfolding bytesOf bytesText isHex
@@ -218,7 +220,7 @@ named : (s : List ℕ) (u v : Verb) (r : Reading Verb) → (r ≡ found v → s 
 named s u v r other e = go (same s (name u)) refl e
   where
     go : (t : Bool) → same s (name u) ≡ t → cond t (found u) r ≡ found v → s ≡ name v
-    go true p q = let w : u ≡ v = cc in same-eq s (name u) p ∙ ap name w
+    go true p q = let w : u ≡ v = cc in same-equal s (name u) p ∙ ap name w
     go false p q = other q
 
 verb-back : (s : List ℕ) (v : Verb) → verbOf s ≡ found v → s ≡ name v
@@ -239,8 +241,11 @@ number-back s n e = go (isNumber s) refl e
     go true p q =
         let w : valueFrom 0 s ≡ n = cc in
         let r = and-right (plainStart s) (allDigits s && leb (valueFrom 0 s) mostNumber) p in
-        let m = leb-true (valueFrom 0 s) mostNumber (and-right (allDigits s) (leb (valueFrom 0 s) mostNumber) r) in
-        (sym (spelled-back s (and-left (plainStart s) (allDigits s && leb (valueFrom 0 s) mostNumber) p) (and-left (allDigits s) (leb (valueFrom 0 s) mostNumber) r) m) ∙ ap decimal w, omega (arith, m, w))
+        let m = leb-true (valueFrom 0 s) mostNumber (and-right (allDigits s) (leb (valueFrom 0 s) mostNumber) r) in (
+          sym (spelled-back s (and-left (plainStart s) (allDigits s && leb (valueFrom 0 s) mostNumber) p)
+              (and-left (allDigits s) (leb (valueFrom 0 s) mostNumber) r) m) ∙ ap decimal w,
+          omega (arith, m, w),
+        )
     go false p q = never n q
 
 -- ---- a field that is read was written so, and fits
@@ -251,7 +256,7 @@ hex-some s e = leb-true _ _ (and-left (leb 1 (length s)) (leb (length s) (2 * mo
 
 dash-text : (s : List ℕ) → isDash s ≡ true → s ≡ fieldText (bytes [])
 unfolding isDash fieldText bytesText
-dash-text s e = same-eq s (dash ∷ []) e
+dash-text s e = same-equal s (dash ∷ []) e
 
 none-back : (s : List ℕ) (f : Field) → noBytesOf s ≡ found f → (s ≡ fieldText f) × NoBytes f
 unfolding noBytesOf
@@ -291,8 +296,10 @@ unfolding isCount fieldText countValue
 count-back-text s e =
     let r = and-right (eqb (length s) 4) (hexPairs s && leb (countValue s) mostCount) e in
     let n = eqb-true (length s) 4 (and-left (eqb (length s) 4) (hexPairs s && leb (countValue s) mostCount) e) in
-    let p = and-left (hexPairs s) (leb (countValue s) mostCount) r in
-    (sym (decoded-hex s p) ∙ ap hexOf (two-bytes (decoded s) (omega (arith, decoded-length s p, n)) (decoded-bytes s p)), leb-true (countValue s) mostCount (and-right (hexPairs s) (leb (countValue s) mostCount) r))
+    let p = and-left (hexPairs s) (leb (countValue s) mostCount) r in (
+      sym (decoded-hex s p) ∙ ap hexOf (two-bytes (decoded s) (omega (arith, decoded-length s p, n)) (decoded-bytes s p)),
+      leb-true (countValue s) mostCount (and-right (hexPairs s) (leb (countValue s) mostCount) r),
+    )
 
 draw-back : (s : List ℕ) (f : Field) → countOf s ≡ found f → (s ≡ fieldText f) × ACount f
 unfolding countOf
@@ -336,7 +343,8 @@ unfolding before after
 joined b [] h = absurd (omega arith)
 joined b (a ∷ s) h = go (eqb a b) refl h (λ k. joined b s k)
   where
-    go : (t : Bool) → eqb a b ≡ t → 1 ≤ length (cond t s (after b s)) → (1 ≤ length (after b s) → s ≡ before b s ++ b ∷ after b s) → a ∷ s ≡ cond t [] (a ∷ before b s) ++ b ∷ cond t s (after b s)
+    go : (t : Bool) → eqb a b ≡ t → 1 ≤ length (cond t s (after b s)) → (1 ≤ length (after b s) → s ≡ before b s ++ b ∷ after b s)
+        → a ∷ s ≡ cond t [] (a ∷ before b s) ++ b ∷ cond t s (after b s)
     go true p k ih = ap (λ (x : ℕ). x ∷ s) (eqb-true a b p)
     go false p k ih = ap (λ (r : List ℕ). a ∷ r) (ih k)
 

@@ -1,8 +1,8 @@
--- Laws of comparing texts, cutting them, and writing them into a buffer.
+-- Laws of cutting texts, and of writing them into a buffer.
 -- Assumes nothing.
 use mathlib.Core.Path.{_≡_, refl, sym, ap, _∙_}
 use mathlib.Core.Bool.{Bool, true, false, cond, _&&_, false≢true}
-use mathlib.Core.List.{List, [], _∷_, _++_}
+use mathlib.Core.List.{List, [], _∷_, _++_, append-nil}
 use Prim.Native.Nat.{ℕ, suc, _+_, _-_, _≤_, _<_, min}
 use native.Mathlib.Nat.{min-eq-left, min-eq-right, add-suc, suc-add, add-zero}
 use native.Mathlib.Numerals.{add-one}
@@ -10,9 +10,10 @@ use native.Mathlib.Omega.{arith}
 use native.Mathlib.Decide.{decLe}
 use lib.Dec.{eqb}
 use lib.ListN.{length, getD, set, take, drop, take-append-drop, length-append, length-drop, drop-of-length-le}
-use lib.Seq.{drop-cons, take-suc, take-nil, drop-length, take-all, length-take-le, set-out, sets, length-sets}
+use lib.Seq.{drop-cons, take-suc, take-nil, drop-length, take-all, length-take-le, set-out, sets, sets-eq, length-sets}
 use borrow.Author.Tests.{eq-eqb, ne-eqb, eqb-true}
-use Rattle.script.specs.Text.{same, before, after, Wrote}
+use Rattle.checks.proofs.Buffers.{part-to-end}
+use Rattle.script.specs.Text.{before, after, Wrote}
 
 -- ---- two tests
 
@@ -27,46 +28,6 @@ and-left false t e = e
 pub and-right : (s t : Bool) → s && t ≡ true → t ≡ true
 and-right true t e = e
 and-right false t e = absurd (false≢true e)
-
--- ---- the same text
-
-same-next : (a b : List ℕ) (i : ℕ) → i < length a → i < length b → same (drop i a) (drop i b) ≡ eqb (getD a i 0) (getD b i 0) && same (drop (i + 1) a) (drop (i + 1) b)
-unfolding same
-same-next a b i ha hb = rw (add-one, drop-cons a i 0, drop-cons b i 0)
-
-pub same-end : (a b : List ℕ) (i : ℕ) → length a ≤ i → length b ≤ i → same (drop i a) (drop i b) ≡ true
-unfolding same
-same-end a b i ha hb = rw (drop-of-length-le a ha, drop-of-length-le b hb)
-
-pub same-differs : (a b : List ℕ) (i : ℕ) → i < length a → i < length b → (getD a i 0 ≡ getD b i 0 → ⊥) → same (drop i a) (drop i b) ≡ false
-same-differs a b i ha hb h = rw (same-next a b i ha hb, ne-eqb _ _ h)
-
-pub same-goes-on : (a b : List ℕ) (i : ℕ) → i < length a → i < length b → getD a i 0 ≡ getD b i 0 → same (drop i a) (drop i b) ≡ same (drop (i + 1) a) (drop (i + 1) b)
-same-goes-on a b i ha hb h = rw (same-next a b i ha hb, eq-eqb _ _ h)
-
-pub same-lengths : (a b : List ℕ) → (length a ≡ length b → ⊥) → same a b ≡ false
-unfolding same
-same-lengths [] [] h = absurd (h refl)
-same-lengths [] (y ∷ b) h = refl
-same-lengths (x ∷ a) [] h = refl
-same-lengths (x ∷ a) (y ∷ b) h = rw (same-lengths a b (λ e. h (ap suc e))) (and-false (eqb x y))
-
--- a text is the same as itself
-pub same-refl : (a : List ℕ) → same a a ≡ true
-unfolding same
-same-refl [] = refl
-same-refl (x ∷ a) = rw (eq-eqb x x refl) (same-refl a)
-
--- texts that are the same are equal
-pub same-eq : (a b : List ℕ) → same a b ≡ true → a ≡ b
-unfolding same
-same-eq [] [] e = refl
-same-eq [] (y ∷ b) e = absurd (false≢true e)
-same-eq (x ∷ a) [] e = absurd (false≢true e)
-same-eq (x ∷ a) (y ∷ b) e =
-    let p : x ≡ y = eqb-true x y (and-left (eqb x y) (same a b) e) in
-    let q : a ≡ b = same-eq a b (and-right (eqb x y) (same a b) e) in
-    cc
 
 -- ---- cutting
 
@@ -142,10 +103,6 @@ after-found b s i e = rw (add-one, e) (drop-before b s)
 pub after-missing : (b : ℕ) (s : List ℕ) → length s ≤ length (before b s) → after b s ≡ []
 after-missing b s h = sym (drop-before b s) ∙ drop-of-length-le s {i = suc (length (before b s))} (omega arith)
 
--- a part that goes to the end
-pub part-to-end : (s : List ℕ) (a : ℕ) → take (length s - a) (drop a s) ≡ drop a s
-part-to-end s a = take-all (length s - a) (drop a s) (rw length-drop (omega arith))
-
 -- what is left from `at` on, cut to `most`: nothing, all, or so many
 pub cut-none : (s : List ℕ) (at most : ℕ) → length s ≤ at → take (length s - length s) (drop (length s) s) ≡ take most (drop at s)
 cut-none s at most h = part-to-end s (length s) ∙ drop-length s ∙ sym (ap (take most) (drop-of-length-le s h) ∙ take-nil most)
@@ -190,7 +147,8 @@ sets-fitting l u at n e = go (decLe (length u) n)
     go (no h) =
         let k : length (take n u) ≡ n = length-take-le n u (omega arith) in
         let m : length (sets l at (take n u)) ≡ length l = length-sets l at (take n u) in
-        sym (ap (sets l at) (sym (take-append-drop n u)) ∙ sets-append (take n u) (drop n u) l at ∙ sets-past (drop n u) (sets l at (take n u)) (at + length (take n u)) (omega arith))
+        sym (ap (sets l at) (sym (take-append-drop n u)) ∙ sets-append (take n u) (drop n u) l at
+        ∙ sets-past (drop n u) (sets l at (take n u)) (at + length (take n u)) (omega arith))
 
 -- no byte: the place is the buffer's end where it was past it
 pub wrote-none : (l : List ℕ) (at n : ℕ) → n ≡ min at (length l) → Wrote l at [] l n
@@ -203,6 +161,11 @@ wrote-past l t at h = record { bytes = sym (sets-past t l at h); place = omega a
 -- the buffer keeps its length
 pub wrote-length : {l t l′ : List ℕ} {at n : ℕ} → Wrote l at t l′ n → length l′ ≡ length l
 wrote-length {l} {t} {l′} {at} w = ap length (w .bytes) ∙ length-sets l at t
+
+-- a text that fills the buffer is all that it holds
+pub wrote-all : {l t l′ : List ℕ} {n : ℕ} → Wrote l 0 t l′ n → length t ≡ length l → l′ ≡ t
+wrote-all {l} {t} w e =
+    w .bytes ∙ sets-eq t l 0 (omega arith) ∙ ap (λ (r : List ℕ). t ++ r) (drop-of-length-le l {i = 0 + length t} (omega arith)) ∙ append-nil t
 
 -- one text behind the other is one text
 pub wrote-more : {l t l′ u l″ : List ℕ} {at n m : ℕ} → Wrote l at t l′ n → Wrote l′ n u l″ m → Wrote l at (t ++ u) l″ m

@@ -14,8 +14,8 @@ nibble b =
     (cond (leb (code "a") b && leb b (code "f")) (b - code "a" + 10) 16)
 
 -- the digit of a value below 16
-unfoldable pub glyph : ℕ → ℕ
-glyph n = cond (ltb n 10) (code "0" + n) (code "a" + (n - 10))
+unfoldable pub digitOf : ℕ → ℕ
+digitOf n = cond (ltb n 10) (code "0" + n) (code "a" + (n - 10))
 
 -- pairs of digits, and nothing left over
 unfoldable pub hexPairs : List ℕ → Bool
@@ -32,7 +32,7 @@ decoded (h ∷ l ∷ s) = (nibble h * 16 + nibble l) ∷ decoded s
 -- bytes as pairs of digits
 unfoldable pub hexOf : List ℕ → List ℕ
 hexOf [] = []
-hexOf (b ∷ bs) = glyph (b / 16) ∷ glyph (b % 16) ∷ hexOf bs
+hexOf (b ∷ bs) = digitOf (b / 16) ∷ digitOf (b % 16) ∷ hexOf bs
 
 -- bytes as a field of a line
 unfoldable pub bytesText : List ℕ → List ℕ

@@ -1,3 +1,4 @@
+-- Crate `script`: its definitions.
 pub mod Text
 pub mod Number
 pub mod Hex

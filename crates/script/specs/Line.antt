@@ -6,9 +6,10 @@ use mathlib.Core.List.{List, [], _∷_, _++_}
 use Prim.Native.Nat.{ℕ, _+_, _*_, _/_, _%_, _≤_, _<_}
 use lib.Dec.{eqb, leb}
 use lib.ListN.{length, getD}
+use Rattle.checks.specs.Equality.{same}
 use Rattle.script.specs.declared.line.Verb.{Verb}
 use Rattle.script.specs.declared.line.Verb.the-variants.{Open, Feed, Draw, Check, Close, Sum}
-use Rattle.script.specs.Text.{text, space, dash, same, before, after}
+use Rattle.script.specs.Text.{text, space, dash, before, after}
 use Rattle.script.specs.Number.{Reading, found, malformed, mostNumber, numberOf, decimal}
 use Rattle.script.specs.Hex.{hexPairs, decoded, hexOf, bytesText}
 

@@ -39,7 +39,7 @@ abbrev pub lineIn : Parsed → List ℕ → Reading Line
 lineIn (Call v n size) buffer = found (lineWith v n size buffer)
 lineIn Malformed buffer = malformed
 
--- ---- how a line is told
+-- ---- how a line is answered
 
 -- how many bytes the third field has, or a draw's count
 abbrev pub sizeOf : Field → ℕ
@@ -50,9 +50,9 @@ abbrev pub bytesIn : Field → List ℕ
 bytesIn (bytes bs) = bs
 bytesIn (count k) = []
 
-abbrev pub told : Reading Line → Parsed
-told (found l) = Call (l .verb) (l .number) (sizeOf (l .field))
-told malformed = Malformed
+abbrev pub parsedOf : Reading Line → Parsed
+parsedOf (found l) = Call (l .verb) (l .number) (sizeOf (l .field))
+parsedOf malformed = Malformed
 
 -- the buffer then begins with the line's bytes, and is as it was where there are none
 abbrev pub bufferAfter : List ℕ → Reading Line → List ℕ

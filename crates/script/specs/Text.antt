@@ -1,7 +1,7 @@
--- Texts: lists of bytes. How they are written in these files, compared, cut at a byte, and put into a lent buffer.
+-- Texts: lists of bytes. How they are written in these files, cut at a byte, and put into a lent buffer.
 -- Assumes nothing.
 use mathlib.Core.Path.{_≡_}
-use mathlib.Core.Bool.{Bool, true, false, cond, _&&_}
+use mathlib.Core.Bool.{cond}
 use mathlib.Core.List.{List, [], _∷_}
 use Prim.Native.Nat.{ℕ, _+_, min}
 use Prim.Native.Char.{code}
@@ -23,13 +23,6 @@ newline = code "\n"
 
 abbrev pub dash : ℕ
 dash = code "-"
-
--- two texts are the same
-unfoldable pub same : List ℕ → List ℕ → Bool
-same [] [] = true
-same [] (b ∷ t) = false
-same (a ∷ s) [] = false
-same (a ∷ s) (b ∷ t) = eqb a b && same s t
 
 -- what stands before the first b; all of it where there is no b
 unfoldable pub before : ℕ → List ℕ → List ℕ

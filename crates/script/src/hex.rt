@@ -65,9 +65,9 @@ pub(crate) fn decode(s: &[u8], buffer: &mut [u8]) -> usize
     n
 }
 
-fn glyph(n: u8) -> u8
+fn digit_of(n: u8) -> u8
     requires { ⌜ n < 16 ⌝ }
-    ensures { λ r. ⌜ r ≡ spec.glyph n ⌝ }
+    ensures { λ r. ⌜ r ≡ spec.digitOf n ⌝ }
 {
     if n < 10 {
         return b'0' + n;
@@ -75,15 +75,16 @@ fn glyph(n: u8) -> u8
     b'a' + (n - 10)
 }
 
-fn put_hex(out: &mut [u8], at: usize, bytes: &[u8]) -> usize
+// Two digits for each byte.
+pub fn put_hex(out: &mut [u8], at: usize, bytes: &[u8]) -> usize
     ensures { λ r. ⌜ Wrote (now (out .entry)) at (spec.hexOf (now (bytes .entry))) (now (out .exit)) r ⌝ }
 {
     let mut next = place_in(out, at);
     let mut i = 0;
     while i < bytes.len() {
         let b = bytes[i];
-        next = put_byte(out, next, glyph(b / 16));
-        next = put_byte(out, next, glyph(b % 16));
+        next = put_byte(out, next, digit_of(b / 16));
+        next = put_byte(out, next, digit_of(b % 16));
         i += 1;
     }
     next

@@ -8,6 +8,7 @@ mod text;
 
 pub use answer::Word;
 pub use answer::write_answer;
+pub use hex::put_hex;
 pub use input::take_line;
 pub use line::Parsed;
 pub use line::Verb;

@@ -9,7 +9,7 @@ use crate::text::same;
 ghost use mathlib.Core.Path.{_≡_};
 ghost use lib.ListN.{length};
 ghost use Rattle.script.specs.Line as spec;
-ghost use Rattle.script.specs.Parsed.{verbIn, lineIn, told, bufferAfter};
+ghost use Rattle.script.specs.Parsed.{verbIn, lineIn, parsedOf, bufferAfter};
 
 // The first field, document 01's `call`.
 pub enum Verb {
@@ -81,7 +81,7 @@ fn is_hex(s: &[u8]) -> bool
 
 fn bytes_field(verb: Verb, number: u32, s: &[u8], buffer: &mut [u8]) -> Parsed
     requires { ⌜ length (now buffer) ≡ spec.mostBytes ⌝ }
-    ensures answer { λ r. ⌜ r ≡ told (spec.withField verb number (spec.bytesOf (now (s .entry)))) ⌝ }
+    ensures answer { λ r. ⌜ r ≡ parsedOf (spec.withField verb number (spec.bytesOf (now (s .entry)))) ⌝ }
     ensures buffer { λ r. ⌜ now (buffer .exit) ≡ bufferAfter (now (buffer .entry)) (spec.withField verb number (spec.bytesOf (now (s .entry)))) ⌝ }
 {
     if is_dash(s) {
@@ -99,7 +99,7 @@ fn bytes_field(verb: Verb, number: u32, s: &[u8], buffer: &mut [u8]) -> Parsed
 }
 
 fn empty_field(verb: Verb, number: u32, s: &[u8]) -> Parsed
-    ensures { λ r. ⌜ r ≡ told (spec.withField verb number (spec.noBytesOf (now (s .entry)))) ⌝ }
+    ensures { λ r. ⌜ r ≡ parsedOf (spec.withField verb number (spec.noBytesOf (now (s .entry)))) ⌝ }
 {
     if is_dash(s) {
         return Parsed::Call {
@@ -112,7 +112,7 @@ fn empty_field(verb: Verb, number: u32, s: &[u8]) -> Parsed
 }
 
 fn count_field(verb: Verb, number: u32, s: &[u8]) -> Parsed
-    ensures { λ r. ⌜ r ≡ told (spec.withField verb number (spec.countOf (now (s .entry)))) ⌝ }
+    ensures { λ r. ⌜ r ≡ parsedOf (spec.withField verb number (spec.countOf (now (s .entry)))) ⌝ }
 {
     if s.len() != 4 {
         return Parsed::Malformed;
@@ -131,7 +131,7 @@ fn count_field(verb: Verb, number: u32, s: &[u8]) -> Parsed
 
 fn third_field(verb: Verb, number: u32, s: &[u8], buffer: &mut [u8]) -> Parsed
     requires { ⌜ length (now buffer) ≡ spec.mostBytes ⌝ }
-    ensures answer { λ r. ⌜ r ≡ told (spec.withField verb number (spec.fieldOf verb number (now (s .entry)))) ⌝ }
+    ensures answer { λ r. ⌜ r ≡ parsedOf (spec.withField verb number (spec.fieldOf verb number (now (s .entry)))) ⌝ }
     ensures buffer { λ r. ⌜ now (buffer .exit) ≡ bufferAfter (now (buffer .entry)) (spec.withField verb number (spec.fieldOf verb number (now (s .entry)))) ⌝ }
 {
     match verb {
@@ -154,7 +154,7 @@ fn third_field(verb: Verb, number: u32, s: &[u8], buffer: &mut [u8]) -> Parsed
 fn parse_into(line: &[u8], buffer: &mut [u8]) -> Parsed
     requires { ⌜ length (now buffer) ≡ spec.mostBytes ⌝ }
     ensures line { λ r. ⌜ lineIn r (now (buffer .exit)) ≡ spec.parse (now (line .entry)) ⌝ }
-    ensures answer { λ r. ⌜ r ≡ told (spec.parse (now (line .entry))) ⌝ }
+    ensures answer { λ r. ⌜ r ≡ parsedOf (spec.parse (now (line .entry))) ⌝ }
     ensures buffer { λ r. ⌜ now (buffer .exit) ≡ bufferAfter (now (buffer .entry)) (spec.parse (now (line .entry))) ⌝ }
 {
     if 2100 < line.len() {
@@ -175,7 +175,7 @@ fn parse_into(line: &[u8], buffer: &mut [u8]) -> Parsed
 // Reads a line. Where it is well-formed, the buffer then begins with its bytes; else the buffer is as it was.
 pub fn parse_line(line: &[u8], buffer: &mut [u8; 1024]) -> Parsed
     ensures line { λ r. ⌜ lineIn r (now (buffer .exit)) ≡ spec.parse (now (line .entry)) ⌝ }
-    ensures answer { λ r. ⌜ r ≡ told (spec.parse (now (line .entry))) ⌝ }
+    ensures answer { λ r. ⌜ r ≡ parsedOf (spec.parse (now (line .entry))) ⌝ }
     ensures buffer { λ r. ⌜ now (buffer .exit) ≡ bufferAfter (now (buffer .entry)) (spec.parse (now (line .entry))) ⌝ }
 {
     parse_into(line, buffer)

@@ -1,1 +1,2 @@
+-- Crate `sign`: its laws.
 pub mod Numbers

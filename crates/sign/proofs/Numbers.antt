@@ -7,8 +7,8 @@ use mathlib.Core.List.{List}
 use Prim.Native.Nat.{ℕ, _+_, _≤_, _<_}
 use borrow.Author.Tests.{le-ltb}
 use lib.ListN.{length}
-use Rattle.sponge.specs.Record.{same}
-use Rattle.sponge.proofs.Tags.{equal-same, other-same}
+use Rattle.checks.specs.Equality.{same}
+use Rattle.checks.proofs.Equality.{equal-same, other-same}
 use Rattle.frame.specs.Frame.{tagFor, tagIn, verifyAnswer}
 use Rattle.frame.proofs.Laws.{refused-none, verify-done}
 use Rattle.frame.proofs.Sealing.{refusals}

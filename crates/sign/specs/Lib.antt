@@ -1,1 +1,2 @@
+-- Crate `sign`: its definitions.
 pub mod Sign

@@ -1,3 +1,4 @@
+-- Crate `sponge`: its laws.
 pub mod Places
 pub mod Core
 pub mod Feeding

@@ -171,7 +171,8 @@ module _ (w : Row) (pos : 0 < w .drawRate) (r : Record) where
         beyond = λ more. rw (z, add-zero) (next (omega (arith, whole)));
       }
 
-      some : ready w (r .drawn) r ≡ r → r .drawn % w .drawRate ≡ used w (r .drawn) → used w (r .drawn) < w .drawRate → Dec (0 < k) → Squeezing w r (length (ys ++ drop k out)) (ys ++ drop k out) r k
+      some : ready w (r .drawn) r ≡ r → r .drawn % w .drawRate ≡ used w (r .drawn) → used w (r .drawn) < w .drawRate → Dec (0 < k)
+          → Squeezing w r (length (ys ++ drop k out)) (ys ++ drop k out) r k
       some still place less (yes l) =
           let room : used w (r .drawn) + k ≤ w .drawRate = omega arith in
           let drawn = block-drawn k (r .drawn) (used w (r .drawn)) r r still place l room in
@@ -193,14 +194,23 @@ module _ (w : Row) (pos : 0 < w .drawRate) (r : Record) where
           some (fresh .0) (fresh .1) (fresh .2) (decLt 0 k)
 
   -- the next block, as far as there is room
-  pub squeeze-block : (n : ℕ) (out ys : List ℕ) (current : Record) (done k m : ℕ) → Squeezing w r n out current done → done < n → k ≡ min (w .drawRate) (n - done) → m ≡ k
+  pub squeeze-block : (n : ℕ) (out ys : List ℕ) (current : Record) (done k m : ℕ) → Squeezing w r n out current done → done < n
+      → k ≡ min (w .drawRate) (n - done) → m ≡ k
       → ys ≡ bytesFrom 0 k (afterRun current .words)
       → Squeezing w r n (take done out ++ (ys ++ drop m (drop done out))) (afterRun current) (done + k)
   squeeze-block n out ys current done k m before more least same e = record {
     inside = omega arith;
-    long = omega (arith, lengths, before .long, length-take-le done out (omega (arith, before .inside, before .long)), length-drop m (drop done out), length-drop done out);
+    long = omega (
+      arith,
+      lengths,
+      before .long,
+      length-take-le done out (omega (arith, before .inside, before .long)),
+      length-drop m (drop done out),
+      length-drop done out,
+    );
     reached = sym (afterDrawing-add w done k (r .drawn) r ∙ ap (afterDrawing w (r .drawn + done) k) (sym (before .reached)) ∙ drawn .0);
-    written = ap (take (done + k)) (sym (append-assoc (take done out) ys (drop m (drop done out)))) ∙ take-at (take done out ++ ys) (drop m (drop done out)) (done + k) front
+    written = ap (take (done + k)) (sym (append-assoc (take done out) ys (drop m (drop done out))))
+        ∙ take-at (take done out ++ ys) (drop m (drop done out)) (done + k) front
         ∙ ap₂ (λ (a b : List ℕ). a ++ b) (before .written) (e ∙ sym (drawn .1) ∙ ap (drawnBytes w (r .drawn + done) k) (before .reached))
         ∙ sym (drawnBytes-add w done k (r .drawn) r);
     beyond = λ left.
@@ -221,11 +231,14 @@ module _ (w : Row) (pos : 0 < w .drawRate) (r : Record) where
       next = before .beyond more
 
       drawn : (afterDrawing w (r .drawn + done) k current ≡ afterRun current) × (drawnBytes w (r .drawn + done) k current ≡ bytesFrom 0 k (afterRun current .words))
-      drawn = block-drawn k (r .drawn + done) 0 current (afterRun current) (ready-due w pos (r .drawn + done) current (next .0) (next .1)) (next .1) (omega arith) (omega arith)
+      drawn = block-drawn k (r .drawn + done) 0 current (afterRun current) (ready-due w pos (r .drawn + done) current (next .0) (next .1)) (next .1)
+          (omega arith) (omega arith)
 
   -- all is written
   pub squeeze-all : (n : ℕ) (out : List ℕ) (current : Record) (done : ℕ) → Squeezing w r n out current done → n ≤ done
       → (current ≡ afterDrawing w (r .drawn) n r) × (out ≡ drawnBytes w (r .drawn) n r)
   squeeze-all n out current done last h =
-      let all : done ≡ n = omega (arith, last .inside) in
-      (last .reached ∙ ap (λ (k : ℕ). afterDrawing w (r .drawn) k r) all, sym (take-all done out (omega (arith, last .long))) ∙ last .written ∙ ap (λ (k : ℕ). drawnBytes w (r .drawn) k r) all)
+      let all : done ≡ n = omega (arith, last .inside) in (
+        last .reached ∙ ap (λ (k : ℕ). afterDrawing w (r .drawn) k r) all,
+        sym (take-all done out (omega (arith, last .long))) ∙ last .written ∙ ap (λ (k : ℕ). drawnBytes w (r .drawn) k r) all,
+      )

@@ -1,9 +1,8 @@
 -- The comparison of a tag.
 -- Assumes nothing.
-use mathlib.Core.Bool.{true, false, false≢true, decide}
-use mathlib.Core.Logic.{_≢_}
-use mathlib.Core.Path.{_≡_, refl, sym, ap, _∙_}
-use mathlib.Core.List.{List, List-discrete}
+use mathlib.Core.Bool.{true, false}
+use mathlib.Core.Path.{_≡_, sym, ap, _∙_}
+use mathlib.Core.List.{List}
 use Prim.Native.Nat.{ℕ, _≤_, _<_}
 use native.Mathlib.Decide.{ℕ-discrete}
 use native.Mathlib.Nat.{zero-add}
@@ -11,38 +10,14 @@ use native.Mathlib.Omega.{arith}
 use borrow.Author.Tests.{eq-eqb, ne-eqb}
 use lib.Dec.{eqb}
 use lib.ListN.{length, getD, take, length-take}
+use Rattle.checks.specs.Equality.{same}
+use Rattle.checks.proofs.Equality.{equal-same, same-equal, other-same}
 use Rattle.word.specs.Bytes.{byteAt, bytesFrom}
 use Rattle.word.proofs.Bytes.{length-bytesFrom, take-bytesFrom, by-bytes, each-byte}
 use Rattle.sponge.specs.declared.record.Record.{Record}
-use Rattle.sponge.specs.Record.{same, block, tagMatches}
+use Rattle.sponge.specs.Record.{block, tagMatches}
 
--- ---- lists are the same exactly where they are equal
-
-pub equal-same : (xs ys : List ℕ) → xs ≡ ys → same xs ys ≡ true
-unfolding same decide
-equal-same xs ys e = go (List-discrete ℕ-discrete xs ys)
-  where
-    go : (d : Dec (xs ≡ ys)) → decide d ≡ true
-    go (yes p) = refl
-    go (no n) = absurd (n e)
-
-pub other-same : (xs ys : List ℕ) → xs ≢ ys → same xs ys ≡ false
-unfolding same decide
-other-same xs ys ne = go (List-discrete ℕ-discrete xs ys)
-  where
-    go : (d : Dec (xs ≡ ys)) → decide d ≡ false
-    go (yes p) = absurd (ne p)
-    go (no n) = refl
-
-pub same-equal : (xs ys : List ℕ) → same xs ys ≡ true → xs ≡ ys
-unfolding same decide
-same-equal xs ys h = go (List-discrete ℕ-discrete xs ys) h
-  where
-    go : (d : Dec (xs ≡ ys)) → decide d ≡ true → xs ≡ ys
-    go (yes p) e = p
-    go (no n) e = absurd (false≢true e)
-
--- the comparison of a tag is equality of lists, both ways: it passes where the tag is as many first bytes of the block, and nowhere else
+-- for the reader: the comparison of a tag is equality of lists, both ways: it passes where the tag is as many first bytes of the block, and nowhere else
 pub tag-both-ways : (tag : List ℕ) (r : Record)
     → (tagMatches tag r ≡ true → tag ≡ take (length tag) (block r)) × (tag ≡ take (length tag) (block r) → tagMatches tag r ≡ true)
 unfolding tagMatches
@@ -57,7 +32,8 @@ SameBelow words tag i = (k : ℕ) → k < i → getD tag k 0 ≡ byteAt words k
 -- a tag that is longer than the block
 pub too-long : (tag words : List ℕ) (R : ℕ) → R < length tag → same tag (take (length tag) (bytesFrom 0 R words)) ≡ false
 too-long tag words R h =
-    other-same tag (take (length tag) (bytesFrom 0 R words)) (λ e. omega (arith, ap length e, length-take (length tag) (bytesFrom 0 R words), length-bytesFrom R 0 words))
+    other-same tag (take (length tag) (bytesFrom 0 R words)) (λ e. omega
+    (arith, ap length e, length-take (length tag) (bytesFrom 0 R words), length-bytesFrom R 0 words))
 
 -- a number that is 0 exactly where all bytes of the tag are those of the words
 pub judged : (tag words : List ℕ) (R difference : ℕ) → length tag ≤ R

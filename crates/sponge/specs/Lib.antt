@@ -1,3 +1,4 @@
+-- Crate `sponge`: its definitions.
 pub mod Sponge
 pub mod Record
 pub mod Parts

@@ -2,12 +2,12 @@
 -- Counts and lengths are 64-bit numbers and wrap where `sum64` says so: nothing here limits how much is fed or drawn. A record that has had 2 ^ 64 bytes drawn
 -- is told by its count as one that has had none drawn, and no run is made before its next byte.
 -- Assumes nothing.
-use mathlib.Core.Bool.{Bool, true, false, cond, not, _&&_, decide}
-use mathlib.Core.List.{List, [], _∷_, List-discrete}
+use mathlib.Core.Bool.{Bool, true, false, cond, not, _&&_}
+use mathlib.Core.List.{List, [], _∷_}
 use Prim.Native.Nat.{ℕ, zero, suc, _+_, _%_, _^_}
-use native.Mathlib.Decide.{ℕ-discrete}
 use lib.Dec.{eqb}
 use lib.ListN.{length, take, replicate}
+use Rattle.checks.specs.Equality.{same}
 use Rattle.word.specs.Bytes.{byteAt, bytesFrom, xorAt}
 use Rattle.permutation.specs.Permutation.{run}
 use Rattle.mode.specs.declared.Mode.{Mode}
@@ -19,10 +19,6 @@ use Rattle.sponge.specs.Sponge.{initial, flipIf}
 -- a sum of 64 bits
 unfoldable pub sum64 : ℕ → ℕ → ℕ
 sum64 a b = (a + b) % 2 ^ 64
-
--- whether two lists are equal
-unfoldable pub same : List ℕ → List ℕ → Bool
-same xs ys = decide (List-discrete ℕ-discrete xs ys)
 
 -- ---- a record with other fields: with `vacant` and `fresh`, the only places that name them all
 

@@ -5,11 +5,12 @@ use mathlib.Core.Path.{_≡_}
 use mathlib.Core.List.{List, [], _∷_, _++_}
 use Prim.Native.Nat.{ℕ, _+_, _^_, _≤_, _<_}
 use lib.ListN.{length, take}
+use Rattle.checks.specs.Equality.{same}
 use Rattle.mode.specs.declared.Mode.{Mode}
 use Rattle.sponge.specs.declared.record.Record.{Record}
 use Rattle.mode.specs.Mode.{Row, row}
 use Rattle.sponge.specs.Sponge.{start, output, oneShot, runsFeeding, runsEnded}
-use Rattle.sponge.specs.Record.{feedBytes, endFeeding, drawnBytes, afterDrawing, fresh, absorbed, finished, nextBytes, squeezed, same, tagMatches}
+use Rattle.sponge.specs.Record.{feedBytes, endFeeding, drawnBytes, afterDrawing, fresh, absorbed, finished, nextBytes, squeezed, tagMatches}
 
 -- the parts of a message, joined
 abbrev pub joined : List (List ℕ) → List ℕ

@@ -1,3 +1,4 @@
+-- Crate `state`: its laws.
 pub mod Words
 pub mod Copying
 pub mod Starts

@@ -1,1 +1,2 @@
+-- Crate `state`: its definitions.
 pub mod State

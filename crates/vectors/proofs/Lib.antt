@@ -1,1 +1,2 @@
+-- Crate `vectors`: its laws.
 pub mod Text

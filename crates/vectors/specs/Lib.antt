@@ -1,1 +1,2 @@
+-- Crate `vectors`: its definitions.
 pub mod Text

@@ -1,8 +1,8 @@
--- The messages of the vectors, and bytes as hexadecimal digits.
+-- The messages of the vectors, and their lengths.
 -- Assumes nothing.
 use mathlib.Core.Bool.{cond}
 use mathlib.Core.List.{List, [], _∷_}
-use Prim.Native.Nat.{ℕ, zero, suc, _+_, _-_, _/_, _%_}
+use Prim.Native.Nat.{ℕ, zero, suc, _-_, _%_}
 use lib.Dec.{ltb}
 use lib.ListN.{getD}
 
@@ -10,15 +10,6 @@ use lib.ListN.{getD}
 unfoldable pub countingFrom : ℕ → ℕ → List ℕ
 countingFrom k zero = []
 countingFrom k (suc n) = k % 256 ∷ countingFrom (suc k) n
-
--- a digit's letter: 0 to 9, a to f
-abbrev pub digitOf : ℕ → ℕ
-digitOf n = cond (ltb n 10) (48 + n) (97 + (n - 10))
-
--- two digits for each byte
-unfoldable pub hexOf : List ℕ → List ℕ
-hexOf [] = []
-hexOf (b ∷ bs) = digitOf (b / 16) ∷ digitOf (b % 16) ∷ hexOf bs
 
 -- the lengths of the messages: 0 to 129, and those after it
 abbrev pub longer : List ℕ

@@ -9,7 +9,8 @@ ghost use Rattle.mode.specs.Mode.{row};
 ghost use Rattle.sponge.specs.Sponge.{oneShot};
 ghost use Rattle.sponge.specs.Record.{absorbed};
 ghost use Rattle.prf_short.specs.Short.{prfShort};
-ghost use Rattle.vectors.specs.Text.{countingFrom, digitOf, hexOf, lengthOf};
+ghost use Rattle.script.specs.Hex.{hexOf};
+ghost use Rattle.vectors.specs.Text.{countingFrom, lengthOf};
 
 // The longest message.
 const LONGEST: usize = 1024;
@@ -53,28 +54,12 @@ fn output(mode: Mode, key: &[u8], message: &[u8], out: &mut [u8])
     let _ = ended.squeeze(out);
 }
 
-// The hexadecimal digit of a number below 16.
-fn digit(n: u8) -> u8
-    requires { ⌜ n < 16 ⌝ }
-    ensures { λ r. ⌜ r ≡ digitOf n ⌝ }
-{
-    if n < 10 {
-        return b'0' + n;
-    }
-    b'a' + (n - 10)
-}
-
 // Two digits for each byte.
 fn hex(bytes: &[u8], text: &mut [u8])
     requires { ⌜ 2 * length (now bytes) ≡ length (now text) ⌝ }
     ensures { λ r. ⌜ now (text .exit) ≡ hexOf (now (bytes .entry)) ⌝ }
 {
-    let mut i = 0;
-    while i < bytes.len() {
-        text[2 * i] = digit(bytes[i] / 16);
-        text[2 * i + 1] = digit(bytes[i] % 16);
-        i += 1;
-    }
+    let _ = script::put_hex(text, 0, bytes);
 }
 
 // The length of message number i: every length up to 129, and then some longer ones on both sides of a block's end.

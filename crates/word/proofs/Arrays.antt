@@ -34,7 +34,8 @@ listed (suc n) f = f 0 ∷ listed n (λ i. f (suc i))
 -- functions that agree have the same values
 pub listed-same : (n : ℕ) (f g : ℕ → ℕ) → ((i : ℕ) → i < n → f i ≡ g i) → listed n f ≡ listed n g
 listed-same zero f g h = refl
-listed-same (suc n) f g h = ap₂ {C = List ℕ} (λ (x : ℕ) (l : List ℕ). x ∷ l) (h 0 (omega arith)) (listed-same n (λ i. f (suc i)) (λ i. g (suc i)) (λ i l. h (suc i) (omega arith)))
+listed-same (suc n) f g h = ap₂ {C = List ℕ} (λ (x : ℕ) (l : List ℕ). x ∷ l) (h 0 (omega arith))
+    (listed-same n (λ i. f (suc i)) (λ i. g (suc i)) (λ i l. h (suc i) (omega arith)))
 
 -- a list of n numbers, written out: at a numeral n the right side computes
 pub written-out : (n : ℕ) (xs : List ℕ) → length xs ≡ n → xs ≡ listed n (λ i. getD xs i 0)

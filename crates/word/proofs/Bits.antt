@@ -80,7 +80,7 @@ word-bits (suc w) x = ap (λ (n : ℕ). bit w x * 2 ^ w + n) (word-bits w x) ∙
 pub is-word : (w : ℕ) {x : ℕ} (f : ℕ → ℕ) → x < 2 ^ w → ((j : ℕ) → j < w → bit j x ≡ f j) → x ≡ word w f
 is-word w {x} f h e = sym (mod-eq-of-lt h) ∙ sym (word-bits w x) ∙ word-same w (λ j. bit j x) f e
 
--- the bits of a word
+-- for the reader: the bits of a word
 pub bit-word : (w : ℕ) (f : ℕ → ℕ) → ((j : ℕ) → f j < 2) → (j : ℕ) → j < w → bit j (word w f) ≡ f j
 unfolding word bit
 bit-word zero f h j l = absurd (not-suc-le-zero l)
@@ -97,7 +97,7 @@ unfolding number
 number-lt [] h = lit< tt
 number-lt (b ∷ bs) h = bit-on-top (length bs) (h .0) (number-lt bs (h .1))
 
--- the bit that n others follow stands at place n
+-- for the reader: the bit that n others follow stands at place n
 pub bit-number : (xs : List ℕ) (b : ℕ) (bs : List ℕ) → Below 2 (xs ++ b ∷ bs) → bit (length bs) (number (xs ++ b ∷ bs)) ≡ b
 unfolding number bit
 bit-number [] b bs h = ap (λ (n : ℕ). n % 2) (high b (length bs) (number-lt bs (h .1))) ∙ mod-eq-of-lt (h .0)

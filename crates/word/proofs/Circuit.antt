@@ -111,7 +111,7 @@ module _ {w : ℕ} {xs : List ℕ} where
       (circuit-word n (λ l. bit b (f (number l))) g (and-left first others t) e fit)
       (by-table n f bs gs (and-right first others t) e fit)
 
--- exclusive or, bit by bit
+-- for the reader: exclusive or, bit by bit
 pub xor-bits : (w x y : ℕ) → x < 2 ^ w → y < 2 ^ w → bitXor x y ≡ word w (λ j. (bit j x + bit j y) % 2)
 xor-bits w x y hx hy =
     circuit-word {w = w} {xs = x ∷ y ∷ []} 2 (λ l. (getD l 0 0 + getD l 1 0) % 2) (xor-gate (input 0) (input 1)) tt refl (hx, (hy, tt))

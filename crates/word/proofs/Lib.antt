@@ -1,3 +1,4 @@
+-- Crate `word`: its laws.
 pub mod Bits
 pub mod Rotation
 pub mod Circuit

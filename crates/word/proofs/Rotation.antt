@@ -50,7 +50,7 @@ rotr-lt w n x l h =
     subst (λ (y : ℕ). y < 2 ^ w) (by-shifts w n x l h)
     (or-lt w (x / 2 ^ n) (x * 2 ^ (w - n) % 2 ^ w) (lt-of-le-of-lt (shr-le x n) h) (mod-lt (x * 2 ^ (w - n)) (pow-pos w)))
 
--- the bit at place j of the rotated word is the one n places above, where the places go round
+-- for the reader: the bit at place j of the rotated word is the one n places above, where the places go round
 pub rotr-bits : (w n x : ℕ) → n ≤ w → x < 2 ^ w → rotr w n x ≡ word w (λ j. bit ((j + n) % w) x)
 unfolding rotr
 rotr-bits w n x l h =

@@ -86,7 +86,8 @@ window-moved [] i k j = refl
 window-moved (b ∷ bs) i k j =
     let word : (8 * i + k) / 8 ≡ i + k / 8 = omega arith in
     let place : (8 * i + k) % 8 ≡ k % 8 = omega arith in
-    let rest : window (suc (8 * i + k)) bs (i + j) ≡ window (suc k) bs j = ap (λ (n : ℕ). window n bs (i + j)) (sym (add-suc (8 * i) k)) ∙ window-moved bs i (suc k) j in
+    let rest : window (suc (8 * i + k)) bs (i + j) ≡ window (suc k) bs j = ap (λ (n : ℕ). window n bs (i + j)) (sym (add-suc (8 * i) k))
+    ∙ window-moved bs i (suc k) j in
     rw (word, place, same-word (ℕ-discrete (k / 8) j), rest)
   where
     same-word : Dec (k / 8 ≡ j) → eqb (i + k / 8) (i + j) ≡ eqb (k / 8) j
@@ -143,7 +144,8 @@ word-xorFrom (b ∷ bs) ws k j h =
 -- n words after bytes are xored in, written out
 pub xorFrom-words : (n : ℕ) (bs ws : List ℕ) (k : ℕ) → length ws ≡ n → xorFrom k bs ws ≡ listed n (λ j. bitXor (getD ws j 0) (window k bs j))
 xorFrom-words n bs ws k e =
-    written-out n (xorFrom k bs ws) (length-xorFrom bs ws k ∙ e) ∙ listed-same n (λ j. getD (xorFrom k bs ws) j 0) (λ j. bitXor (getD ws j 0) (window k bs j)) (λ j l. word-xorFrom bs ws k j (rw e l))
+    written-out n (xorFrom k bs ws) (length-xorFrom bs ws k ∙ e)
+    ∙ listed-same n (λ j. getD (xorFrom k bs ws) j 0) (λ j. bitXor (getD ws j 0) (window k bs j)) (λ j l. word-xorFrom bs ws k j (rw e l))
 
 -- ---- words made of bytes
 
@@ -165,4 +167,5 @@ pub words-xored : (n : ℕ) (bs : List ℕ) → Bytes bs → length bs ≡ 8 * n
 words-xored n bs bytes e =
     wordsOf-listed n bs
     ∙ sym (xorFrom-words n bs (replicate n 0) 0 (length-replicate n 0)
-    ∙ listed-same n (λ j. bitXor (getD (replicate n 0) j 0) (window 0 bs j)) (λ j. fromBytes (take 8 (drop (8 * j) bs))) (λ j l. rw (zeros-at n j) (rw sub-zero at (window-all bs 0 j bytes (omega arith) (omega arith)))))
+    ∙ listed-same n (λ j. bitXor (getD (replicate n 0) j 0) (window 0 bs j)) (λ j. fromBytes (take 8 (drop (8 * j) bs)))
+    (λ j l. rw (zeros-at n j) (rw sub-zero at (window-all bs 0 j bytes (omega arith) (omega arith)))))

@@ -33,7 +33,14 @@ alone-above b u v h l = rw (div-eq-of-lt (lt-of-lt-of-le (shl-lt 8 v h) (pow-mon
 alone-below : (b u v : ℕ) → 8 + u ≤ v → b * 2 ^ v / 2 ^ u % 256 ≡ 0
 alone-below b u v l =
     let e : v ≡ (v - 8 - u) + 8 + u = omega arith in
-    rw (e, pow-add 2 (v - 8 - u + 8) u, pow-add 2 (v - 8 - u) 8, ← mul-assoc b (2 ^ (v - 8 - u) * 2 ^ 8) (2 ^ u), shl-shr (b * (2 ^ (v - 8 - u) * 2 ^ 8)) u, ← mul-assoc)
+    rw (
+      e,
+      pow-add 2 (v - 8 - u + 8) u,
+      pow-add 2 (v - 8 - u) 8,
+      ← mul-assoc b (2 ^ (v - 8 - u) * 2 ^ 8) (2 ^ u),
+      shl-shr (b * (2 ^ (v - 8 - u) * 2 ^ 8)) u,
+      ← mul-assoc,
+    )
     (mul-mod-left (b * 2 ^ (v - 8 - u)) 256)
 
 -- bytes k and m of one word
@@ -104,7 +111,7 @@ xored-from (b ∷ bs) k m ws l h =
 pub xored-block : (bs ws : List ℕ) → length bs ≤ 8 * length ws → Bytes bs → (m : ℕ) → byteAt (xorFrom 0 bs ws) m ≡ bitXor (byteAt ws m) (getD bs m 0)
 xored-block bs ws l h m = xored-from bs 0 m ws (omega arith) h ∙ rw (le-leb 0 m (omega arith), sub-zero)
 
--- byte 0 is the top byte of the first word, and byte 39 the low byte of the fifth
+-- for the reader: byte 0 is the top byte of the first word, and byte 39 the low byte of the fifth
 pub first-byte : (ws : List ℕ) → byteAt ws 0 ≡ getD ws 0 0 / 2 ^ 56 % 256
 unfolding byteAt weight
 first-byte ws = refl
@@ -113,7 +120,7 @@ pub last-byte : (ws : List ℕ) → byteAt ws 39 ≡ getD ws 4 0 % 256
 unfolding byteAt weight
 last-byte ws = rw div-one
 
--- the lowest bit of the fifth word is that of byte 39
+-- for the reader: the lowest bit of the fifth word is that of byte 39
 pub flipped-byte : (ws : List ℕ) (m : ℕ) → length ws ≡ 5 → byteAt (xorWord 4 1 ws) m ≡ bitXor (byteAt ws m) (cond (eqb 39 m) 1 0)
 unfolding xorAt weight
 flipped-byte ws m e = xored-byte 39 1 m ws (omega arith) (lit< tt)
@@ -140,4 +147,5 @@ pub words-read : (n : ℕ) (bs : List ℕ) → Bytes bs → length bs ≡ 8 * n 
 unfolding byteAt
 words-read n bs bytes e =
     rw (words-xored n bs bytes e, ← e)
-    (sym (by-bytes bs 0 (xorFrom 0 bs (replicate n 0)) (λ i l. sym (xored-block bs (replicate n 0) (rw (length-replicate {A = ℕ} n 0) (omega arith)) bytes (0 + i) ∙ rw (zeros-at n ((0 + i) / 8), zero-div, zero-add)))))
+    (sym (by-bytes bs 0 (xorFrom 0 bs (replicate n 0)) (λ i l. sym
+    (xored-block bs (replicate n 0) (rw (length-replicate {A = ℕ} n 0) (omega arith)) bytes (0 + i) ∙ rw (zeros-at n ((0 + i) / 8), zero-div, zero-add)))))

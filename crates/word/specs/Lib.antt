@@ -1,2 +1,3 @@
+-- Crate `word`: its definitions.
 pub mod Word
 pub mod Bytes

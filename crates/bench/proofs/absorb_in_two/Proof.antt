@@ -4,7 +4,7 @@ use mathlib.Core.Path.{sym}
 use native.Mathlib.Omega.{arith}
 use lib.Seq.{length-take-le}
 use Rattle.sponge.specs.Streaming.{absorbedParts}
-use Rattle.bench.proofs.Halves.{rest}
+use Rattle.checks.proofs.Buffers.{part-to-end}
 use borrow.Author.Needs.{needs}
 use Rattle.bench.proofs.absorb_in_two.Statement.{statement}
 use Rattle.bench.proofs.absorb_in_two.Tie as tie
@@ -34,7 +34,7 @@ absorb-requires-2 c κs = search needs
 
 returns : tie.Need-returns
 unfolding absorbedParts
-returns c = rw (c .absorb2 .ensures, c .before .before .absorb .ensures, rest, c .before .before .before .before .shorter .ensures)
+returns c = rw (c .absorb2 .ensures, c .before .before .absorb .ensures, part-to-end, c .before .before .before .before .shorter .ensures)
 
 pub absorb-in-two-spec : {M : Type 1} → statement M
 absorb-in-two-spec =

@@ -1,4 +1,5 @@
--- `bench::bench_permute_chain` meets its contract. The loop's invariant: the permutations that are left, of the state as it is, give what all of them give of the first.
+-- `bench::bench_permute_chain` meets its contract. The loop's invariant: the permutations that are left, of the state as it is, give what all of them give of
+-- the first.
 -- Assumes nothing.
 use mathlib.Core.Path.{_≡_, sym, ap, _∙_}
 use mathlib.Core.List.{List}

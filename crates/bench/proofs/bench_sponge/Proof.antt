@@ -2,7 +2,7 @@
 -- Assumes nothing.
 use mathlib.Core.Path.{_≡_, refl, sym, ap, ap₂, _∙_}
 use mathlib.Core.List.{List, _++_, append-nil}
-use Prim.Native.Nat.{ℕ, _+_, _-_, _^_, _<_, min}
+use Prim.Native.Nat.{ℕ, _^_, _<_, min}
 use native.Mathlib.Omega.{arith}
 use lib.ListN.{length, take, drop, take-append-drop}
 use Rattle.mode.specs.declared.Mode.{Mode}
@@ -59,7 +59,8 @@ enum-told c = search needs
 
 returns : tie.Need-returns
 returns c =
-    let none : named (c .before .before .before .before .before .before .args .mode) ≡ NoMode = sym (c .before .before .of-number .ensures .1) ∙ c .enum-told .given .1 in
+    let none : named (c .before .before .before .before .before .before .args .mode) ≡ NoMode =
+    sym (c .before .before .of-number .ensures .1) ∙ c .enum-told .given .1 in
     rw none (refl, refl)
 
 fresh-requires : tie.Need-fresh-requires
@@ -84,14 +85,20 @@ returns-2 : tie.Need-returns-2
 returns-2 c =
     let a = c .before .before .before .before .before .before .before .before .before .before .before .before .before .before .before .args in
     let m : Mode = c .before .before .before .before .before .before .before .before .before .known .given .0 .0 in
-    let known : named (a .mode) ≡ Is m = sym (c .before .before .before .before .before .before .before .before .before .before .before .of-number .ensures .1) ∙ c .before .before .before .before .before .before .before .before .before .known .given .1 in
+    let known : named (a .mode) ≡ Is m = sym (c .before .before .before .before .before .before .before .before .before .before .before .of-number .ensures .1)
+    ∙ c .before .before .before .before .before .before .before .before .before .known .given .1 in
     let start = c .before .before .before .before .before .before .before .before .before .before .before .before .before .before .before in
     let drawn = c .before .before .before .squeeze-in-two .ensures in
     let ended = c .before .before .before .before .before .finish .ensures in
     let fed = c .before .before .before .before .before .before .absorb-in-two .ensures in
     let begun = c .before .before .before .before .before .before .before .fresh .ensures in
     rw known (
-      c .runs .ensures ∙ rw (drawn .0, ended, fed, begun) (runs-made m (a .key .now) (a .message .now) (a .cut) (a .first) (length (a .out .now)) (few start) (fits start)),
+      c .runs .ensures ∙ rw (
+        drawn .0,
+        ended,
+        fed,
+        begun,
+      ) (runs-made m (a .key .now) (a .message .now) (a .cut) (a .first) (length (a .out .now)) (few start) (fits start)),
       drawn .1 ∙ rw (ended, fed, begun) (bytes-drawn m (a .key .now) (a .message .now) (a .cut) (a .first) (length (a .out .now)) (fits start)),
     )
 

@@ -58,7 +58,8 @@ returns c =
     let written : ys ≡ nextBytes k (a .s) = first .ensures .1 ∙ ap (λ (n : ℕ). nextBytes n (a .s)) front in
     let begun : first .result ≡ squeezed k (a .s) = first .ensures .0 ∙ ap (λ (n : ℕ). squeezed n (a .s)) front in
     let count : length ys ≡ k = ap length written ∙ length-nextBytes k (a .s) in
-    let back : length (take (length (ys ++ drop k out) - k) (drop k (ys ++ drop k out))) ≡ length out - k = ap length (second-half out ys [] k count) ∙ length-drop k out in (
+    let back : length (take (length (ys ++ drop k out) - k) (drop k (ys ++ drop k out))) ≡ length out - k =
+    ap length (second-half out ys [] k count) ∙ length-drop k out in (
       second .ensures .0 ∙ ap₂ (λ (n : ℕ) (x : Record). squeezed n x) back begun ∙ rw least,
       both-halves out ys (second .last .1 .0) k count
           ∙ ap₂ (λ (x y : List ℕ). x ++ y) written (second .ensures .1 ∙ ap₂ (λ (n : ℕ) (x : Record). nextBytes n x) back begun)

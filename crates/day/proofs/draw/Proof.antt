@@ -1,3 +1,5 @@
+-- `day::draw` meets its contract.
+-- Assumes nothing.
 use mathlib.Core.Path.{ap}
 use borrow.Author.Needs.{needs}
 use Rattle.hub.specs.declared.Reply.{Reply}
@@ -41,7 +43,10 @@ same-length : tie.Need-same-length
 same-length c = search needs
 
 returns : tie.Need-returns
-returns c = (ap (λ (r : Reply). r .hub) (c .before .before .before .before .before .before .before .before .draw .ensures .0), c .before .before .before .before .before .before .before .before .draw .ensures .1)
+returns c = (
+  ap (λ (r : Reply). r .hub) (c .before .before .before .before .before .before .before .before .draw .ensures .0),
+  c .before .before .before .before .before .before .before .before .draw .ensures .1,
+)
 
 pub draw-spec : {M : Type 1} → statement M
 draw-spec =

@@ -1,3 +1,5 @@
+-- `day::turn` meets its contract.
+-- Assumes nothing.
 use native.Mathlib.Omega.{arith}
 use borrow.Author.Needs.{needs}
 use Rattle.hub.specs.Hub.{onHub}
@@ -28,7 +30,8 @@ open-requires c κs = search needs
 
 returns : tie.Need-returns
 unfolding onHub
-returns c = let a = c .before .before .before .before .before .args in after-call (a .i) _ (a .before) _ _ (opens-keyed (a .i) _ (omega arith) (omega arith)) (c .«open» .ensures)
+returns c = let a = c .before .before .before .before .before .args in after-call (a .i) _ (a .before) _ _ (opens-keyed (a .i) _ (omega arith) (omega arith))
+    (c .«open» .ensures)
 
 add-open-2 : tie.Need-add-open-2
 add-open-2 c = search needs
@@ -44,7 +47,8 @@ open-requires-2 c κs = search needs
 
 returns-2 : tie.Need-returns-2
 unfolding onHub
-returns-2 c = let a = c .before .before .before .before .before .args in after-call (a .i) _ (a .before) _ _ (opens-unkeyed (a .i) _ (omega arith) (omega arith)) (c .open2 .ensures)
+returns-2 c = let a = c .before .before .before .before .before .args in after-call (a .i) _ (a .before) _ _
+    (opens-unkeyed (a .i) _ (omega arith) (omega arith)) (c .open2 .ensures)
 
 add-ticket : tie.Need-add-ticket
 add-ticket c = search needs
@@ -72,7 +76,8 @@ feed-requires c κs = search needs
 
 returns-3 : tie.Need-returns-3
 unfolding onHub
-returns-3 c = let a = c .before .before .before .before .before .args in after-call (a .i) _ (a .before) _ _ (feeds (a .i) _ (omega arith) (omega arith)) (c .feed .ensures)
+returns-3 c = let a = c .before .before .before .before .before .args in after-call (a .i) _ (a .before) _ _ (feeds (a .i) _ (omega arith) (omega arith))
+    (c .feed .ensures)
 
 slice-aggregate-draw : tie.Need-slice-aggregate-draw
 slice-aggregate-draw c = search needs
@@ -85,7 +90,8 @@ draw-requires c κs = search needs
 
 returns-4 : tie.Need-returns-4
 unfolding onHub
-returns-4 c = let a = c .before .before .before .before .before .before .before .args in after-call (a .i) _ (a .before) _ _ (draws (a .i) _ (omega arith) (omega arith)) (c .before .draw .ensures .0)
+returns-4 c = let a = c .before .before .before .before .before .before .before .args in after-call (a .i) _ (a .before) _ _
+    (draws (a .i) _ (omega arith) (omega arith)) (c .before .draw .ensures .0)
 
 cast-close : tie.Need-cast-close
 cast-close c = search needs

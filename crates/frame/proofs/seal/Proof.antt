@@ -21,14 +21,17 @@ few : (c : tie.After-refusal) → length (c .before .before .before .before .arg
 few c = search needs
 
 -- the checks refuse nothing
-accepted : (c : tie.Else1) → frameRefusal (c .before .before .before .before .before .args .key .now) (c .before .before .before .before .before .args .frame .now) (c .before .before .before .before .before .args .body) ≡ 0
+accepted : (c : tie.Else1) → frameRefusal (c .before .before .before .before .before .args .key .now)
+    (c .before .before .before .before .before .args .frame .now) (c .before .before .before .before .before .args .body) ≡ 0
 accepted c = sym (c .before .refusal .ensures) ∙ c .if1 .left
 
 room : (c : tie.Else1) → c .before .before .before .before .before .args .body + 16 ≤ length (c .before .before .before .before .before .args .frame .now)
 room c = has-room _ _ _ (accepted c)
 
 -- the sponge has been fed the body
-fed : (c : tie.After-absorb) → c .absorb .result ≡ fedBody (c .before .before .before .before .before .before .before .args .key .now) (c .before .before .before .before .before .before .before .args .frame .now) (c .before .before .before .before .before .before .before .args .body)
+fed : (c : tie.After-absorb) → c .absorb .result
+    ≡ fedBody (c .before .before .before .before .before .before .before .args .key .now)
+    (c .before .before .before .before .before .before .before .args .frame .now) (c .before .before .before .before .before .before .before .args .body)
 fed c = c .absorb .ensures
 
 -- the part that is lent: sixteen bytes from the end of the body on
@@ -39,12 +42,18 @@ sixteen : (c : tie.After-squeeze) → length (lent c) ≡ 16
 sixteen c = part-length _ _ _ (room (c .before .before .before .before))
 
 -- what is drawn into it
-drawn-record : (c : tie.After-squeeze) → c .squeeze .result ≡ squeezed 16 (fedBody (c .before .before .before .before .before .before .before .before .before .args .key .now) (c .before .before .before .before .before .before .before .before .before .args .frame .now) (c .before .before .before .before .before .before .before .before .before .args .body))
+drawn-record : (c : tie.After-squeeze) → c .squeeze .result
+    ≡ squeezed 16 (fedBody (c .before .before .before .before .before .before .before .before .before .args .key .now)
+    (c .before .before .before .before .before .before .before .before .before .args .frame .now)
+    (c .before .before .before .before .before .before .before .before .before .args .body))
 drawn-record c =
     let drawn : c .squeeze .result ≡ squeezed (length (lent c)) (c .before .before .absorb .result) = c .squeeze .ensures .0 in
     drawn ∙ ap₂ squeezed (sixteen c) (fed (c .before .before))
 
-drawn-bytes : (c : tie.After-squeeze) → c .squeeze .last .1 .0 ≡ tagFor (c .before .before .before .before .before .before .before .before .before .args .key .now) (c .before .before .before .before .before .before .before .before .before .args .frame .now) (c .before .before .before .before .before .before .before .before .before .args .body)
+drawn-bytes : (c : tie.After-squeeze) → c .squeeze .last .1 .0
+    ≡ tagFor (c .before .before .before .before .before .before .before .before .before .args .key .now)
+    (c .before .before .before .before .before .before .before .before .before .args .frame .now)
+    (c .before .before .before .before .before .before .before .before .before .args .body)
 drawn-bytes c =
     let drawn : c .squeeze .last .1 .0 ≡ nextBytes (length (lent c)) (c .before .before .absorb .result) = c .squeeze .ensures .1 in
     drawn ∙ ap₂ nextBytes (sixteen c) (fed (c .before .before)) ∙ tag-drawn _ _ _
@@ -68,7 +77,8 @@ slice-reshare-prefix-absorb : tie.Need-slice-reshare-prefix-absorb
 slice-reshare-prefix-absorb c = omega (arith, room c)
 
 slice-aggregate-absorb : tie.Need-slice-aggregate-absorb
-slice-aggregate-absorb c = let a = c .before .before .before .before .before .before .args in sym (length-take-le (a .body) (a .frame .now) (omega (arith, room (c .before))))
+slice-aggregate-absorb c = let a = c .before .before .before .before .before .before .args in sym
+    (length-take-le (a .body) (a .frame .now) (omega (arith, room (c .before))))
 
 absorb-requires : tie.Need-absorb-requires
 absorb-requires c κs = search needs
@@ -96,7 +106,9 @@ returns-2 c =
     let a = c .before .before .before .before .before .before .before .before .before .before .before .before .args in
     let done : frameRefusal (a .key .now) (a .frame .now) (a .body) ≡ 0 = accepted (c .before .before .before .before .before .before .before) in
     let counted : c .runs .result ≡ c .before .before .before .squeeze .result .runs = c .runs .ensures in
-    let runs : c .runs .result ≡ frameRuns (a .body) = counted ∙ rw (drawn-record (c .before .before .before)) (sealing-runs _ _ _ (room (c .before .before .before .before .before .before .before)) (few (c .before .before .before .before .before .before .before .before))) in
+    let runs : c .runs .result ≡ frameRuns (a .body) = counted
+    ∙ rw (drawn-record (c .before .before .before)) (sealing-runs _ _ _ (room (c .before .before .before .before .before .before .before))
+    (few (c .before .before .before .before .before .before .before .before))) in
     let tag : c .before .before .before .squeeze .last .1 .0 ≡ tagFor (a .key .now) (a .frame .now) (a .body) = drawn-bytes (c .before .before .before) in (
       ap (λ (n : ℕ). record { refusal = 0; runs = n }) runs ∙ sym (seal-done _ _ _ done),
       part-written _ _ _ _ (ap length tag ∙ length-tagFor _ _ _ ∙ sym (add-sub-cancel-left (a .body) 16))

@@ -1,3 +1,5 @@
+-- `hub::check` meets its contract.
+-- Assumes nothing.
 use mathlib.Core.Path.{sym, ap, _∙_}
 use Rattle.hub.specs.declared.Hub.{Hub}
 use Rattle.hub.specs.declared.places.Located.{Located}
@@ -33,7 +35,8 @@ returns c =
     let h : Hub = a .hub in
     let l : Located = c .before .before .before .before .locate .result in
     ap (λ (w : Worked). replied (l .place) w h) (c .before .before .check-record .ensures)
-    ∙ ap (λ (m : Located). replied (m .place) (workedOf (checkRecord (m .refusal) (a .tag .now) (recordAt (m .place) h))) h) (c .before .before .before .before .locate .ensures .0)
+    ∙ ap (λ (m : Located). replied (m .place) (workedOf (checkRecord (m .refusal) (a .tag .now) (recordAt (m .place) h))) h)
+    (c .before .before .before .before .locate .ensures .0)
     ∙ sym (ap replyOf (check-is (a .ticket) h (a .tag .now)))
 
 pub check-spec : {M : Type 1} → statement M

@@ -1,3 +1,5 @@
+-- `hub::close` meets its contract.
+-- Assumes nothing.
 use mathlib.Core.Path.{_≡_, sym, ap, _∙_}
 use Prim.Native.Nat.{ℕ, _<_, _^_}
 use Rattle.sponge.specs.Record.{sum64}

@@ -1,3 +1,5 @@
+-- `hub::draw` meets its contract.
+-- Assumes nothing.
 use mathlib.Core.Path.{sym, ap, _∙_}
 use Rattle.sponge.specs.declared.record.Record.{Record}
 use Rattle.calls.specs.Call.{Step}
@@ -43,7 +45,8 @@ returns c =
       ap (λ (w : Worked). replied (l .place) w h) (c .before .before .before .before .draw-record .ensures .0)
           ∙ ap (λ (m : Located). replied (m .place) (workedOf (worked m)) h) located
           ∙ sym (ap replyOf is),
-      c .before .before .before .before .draw-record .ensures .1 ∙ ap (λ (m : Located). worked m .response .buffer) located ∙ sym (ap (λ (s : Step Hub). s .response .buffer) is),
+      c .before .before .before .before .draw-record .ensures .1 ∙ ap (λ (m : Located). worked m .response .buffer) located
+          ∙ sym (ap (λ (s : Step Hub). s .response .buffer) is),
     )
 
 pub draw-spec : {M : Type 1} → statement M

@@ -1,3 +1,5 @@
+-- `hub::feed` meets its contract.
+-- Assumes nothing.
 use mathlib.Core.Path.{sym, ap, _∙_}
 use Rattle.hub.specs.declared.Hub.{Hub}
 use Rattle.hub.specs.declared.places.Located.{Located}
@@ -33,7 +35,8 @@ returns c =
     let h : Hub = a .hub in
     let l : Located = c .before .before .before .before .locate .result in
     ap (λ (w : Worked). replied (l .place) w h) (c .before .before .feed-record .ensures)
-    ∙ ap (λ (m : Located). replied (m .place) (workedOf (feedRecord (m .refusal) (a .bytes .now) (recordAt (m .place) h))) h) (c .before .before .before .before .locate .ensures .0)
+    ∙ ap (λ (m : Located). replied (m .place) (workedOf (feedRecord (m .refusal) (a .bytes .now) (recordAt (m .place) h))) h)
+    (c .before .before .before .before .locate .ensures .0)
     ∙ sym (ap replyOf (feed-is (a .ticket) h (a .bytes .now)))
 
 pub feed-spec : {M : Type 1} → statement M

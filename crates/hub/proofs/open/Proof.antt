@@ -1,3 +1,5 @@
+-- `hub::open` meets its contract.
+-- Assumes nothing.
 use mathlib.Core.Bool.{true}
 use mathlib.Core.Path.{_≡_, refl, sym, ap, _∙_}
 use native.Mathlib.Omega.{arith}
@@ -17,7 +19,8 @@ use Rattle.hub.proofs.open.Tie as tie
 is-mode : (c : tie.After-named) → named (c .before .before .before .before .args .mode) ≡ Is (c .named .given .0 .0)
 is-mode c = sym (c .before .before .of-number .ensures .1) ∙ c .named .given .1
 
-right-key : (c : tie.Else1) → eqb (length (c .before .before .before .before .before .before .before .args .key .now)) (row (c .before .before .before .named .given .0 .0) .keyLength) ≡ true
+right-key : (c : tie.Else1) → eqb (length (c .before .before .before .before .before .before .before .args .key .now))
+    (row (c .before .before .before .named .given .0 .0) .keyLength) ≡ true
 right-key c = eq-eqb _ _ (c .if1 .left ∙ c .before .key-length .ensures)
 
 long : (c : tie.After-find) → length (c .before .before .before .before .before .before .before .before .before .before .args .hub .records) ≡ 16
@@ -55,7 +58,8 @@ refuse-requires-3 c κs = search needs
 
 returns-3 : tie.Need-returns-3
 returns-3 c =
-    c .refuse3 .ensures ∙ sym (ap replyOf (open-14 _ _ _ _ (is-mode (c .before .before .before .before .before .before)) (right-key (c .before .before .before)) (c .before .if2 .taken)))
+    c .refuse3 .ensures ∙ sym (ap replyOf (open-14 _ _ _ _ (is-mode (c .before .before .before .before .before .before)) (right-key (c .before .before .before))
+    (c .before .if2 .taken)))
 
 find-requires : tie.Need-find-requires
 find-requires c κs = search needs
@@ -66,7 +70,8 @@ refuse-requires-4 c κs = search needs
 returns-4 : tie.Need-returns-4
 returns-4 c =
     let full = absent-past _ _ _ (c .before .before .find .ensures) (omega (arith, long (c .before .before))) in
-    c .refuse4 .ensures ∙ sym (ap replyOf (open-13 _ _ _ _ (is-mode (c .before .before .before .before .before .before .before .before)) (right-key (c .before .before .before .before .before)) (omega (arith, c .before .before .before .if2 .left)) full))
+    c .refuse4 .ensures ∙ sym (ap replyOf (open-13 _ _ _ _ (is-mode (c .before .before .before .before .before .before .before .before))
+    (right-key (c .before .before .before .before .before)) (omega (arith, c .before .before .before .if2 .left)) full))
 
 add-ticket : tie.Need-add-ticket
 add-ticket c = search needs
@@ -89,7 +94,10 @@ opened-requires c κs = search needs
 returns-5 : tie.Need-returns-5
 returns-5 c =
     let room = absent-within _ _ _ (c .before .before .before .before .before .find .ensures) (omega (arith, long (c .before .before .before .before .before))) in
-    open-done _ _ _ _ (is-mode (c .before .before .before .before .before .before .before .before .before .before .before)) (right-key (c .before .before .before .before .before .before .before .before)) (omega (arith, c .before .before .before .before .before .before .if2 .left)) room _ (c .before .before .before .before .before .find .ensures) _ (c .before .before .fresh .ensures)
+    open-done _ _ _ _ (is-mode (c .before .before .before .before .before .before .before .before .before .before .before))
+    (right-key (c .before .before .before .before .before .before .before .before))
+    (omega (arith, c .before .before .before .before .before .before .if2 .left)) room _ (c .before .before .before .before .before .find .ensures) _
+    (c .before .before .fresh .ensures)
     _ _ refl (c .opened .ensures ∙ ap (opened _) (c .before .runs .ensures))
 
 pub open-spec : {M : Type 1} → statement M

@@ -1,4 +1,5 @@
--- The invariant: the sum so far and the runs still to come make the whole sum, modulo 2 ^ 64.
+-- `hub::sum` meets its contract. The loop's invariant: the sum so far and the runs still to come make the whole sum, modulo 2 ^ 64.
+-- Assumes nothing.
 use mathlib.Core.Path.{_≡_, ap, _∙_}
 use Prim.Native.Nat.{ℕ, _≤_, _<_, _-_, _+_, _%_, _^_}
 use native.Mathlib.Omega.{arith}

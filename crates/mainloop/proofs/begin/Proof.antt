@@ -1,3 +1,5 @@
+-- `mainloop::begin` meets its contract.
+-- Assumes nothing.
 use borrow.Author.Needs.{needs}
 use mathlib.Core.Path.{ap, _∙_}
 use mathlib.Core.List.{[]}
@@ -49,7 +51,8 @@ returns : tie.Need-returns
 unfolding sixteen
 returns c =
     let key = c .before .before .before .before .before .before .before .before .before .before .before .before .before .before .args .key .now in
-    let prf = c .before .before .before .before .before .before .before .before .open-eight .ensures ∙ ap (λ (h : Hub). final onHub h (replicate 8 (Open 1 key))) (c .before .before .before .before .before .before .before .before .before .empty .ensures) in
+    let prf = c .before .before .before .before .before .before .before .before .open-eight .ensures
+    ∙ ap (λ (h : Hub). final onHub h (replicate 8 (Open 1 key))) (c .before .before .before .before .before .before .before .before .before .empty .ensures) in
     let all = c .before .before .before .before .before .before .open-eight2 .ensures ∙ ap (λ (h : Hub). final onHub h (replicate 8 (Open 3 []))) prf in
     c .before .before .before .before .before .draw .ensures ∙ ap (λ (h : Hub). drawHub 14 lentOut 0 3 h .after) all
 

@@ -1,3 +1,5 @@
+-- `mainloop::draw` meets its contract.
+-- Assumes nothing.
 use borrow.Author.Needs.{needs}
 use mathlib.Core.Path.{ap}
 use Rattle.hub.specs.declared.Reply.{Reply}

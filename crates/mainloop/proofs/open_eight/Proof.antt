@@ -1,3 +1,5 @@
+-- `mainloop::open_eight` meets its contract.
+-- Assumes nothing.
 use mathlib.Core.Path.{_≡_, refl, ap, _∙_}
 use Prim.Native.Nat.{_-_, _≤_}
 use native.Mathlib.Omega.{arith}
@@ -53,8 +55,11 @@ loop-less c = omega arith
 loop-again : tie.Need-loop-again Inv-loop μ-loop
 unfolding onHub
 loop-again c =
-    let l = c .before .before .before .before .before .before .before .before .before .before .loop in
-    (omega arith, again-next onHub _ _ (l .i) (l .current) (omega arith) _ (ap (λ (r : Reply). r .hub) (c .before .before .before .before .before .before .before .before .«open» .ensures)) ∙ l .inv .1)
+    let l = c .before .before .before .before .before .before .before .before .before .before .loop in (
+      omega arith,
+      again-next onHub _ _ (l .i) (l .current) (omega arith) _
+          (ap (λ (r : Reply). r .hub) (c .before .before .before .before .before .before .before .before .«open» .ensures)) ∙ l .inv .1,
+    )
 
 returns : tie.Need-returns Inv-loop μ-loop
 returns c = again-end onHub _ _ (c .before .loop .i) (c .before .loop .current) (omega arith) ∙ c .before .loop .inv .1

@@ -1,3 +1,5 @@
+-- `mainloop::serve_by_value` meets its contract.
+-- Assumes nothing.
 use mathlib.Core.Path.{_≡_, ap, ap₂, _∙_}
 use Prim.Native.Nat.{ℕ, _-_, _≤_}
 use native.Mathlib.Nat.{sub-zero}
@@ -48,8 +50,10 @@ loop-again c =
     let l = c .before .before .before .before .before .before .before .loop in
     let bytes = c .before .before .before .before .before .before .before .before .before .args .bytes .now in
     let fed : c .before .before .before .before .feed .result .hub ≡ feedHub (feedTicket (l .i)) bytes (l .current) .after =
-    ap (λ (r : Reply). r .hub) (c .before .before .before .before .feed .ensures) ∙ ap (λ (t : ℕ). feedHub t bytes (l .current) .after) (c .before .before .before .before .before .feed-ticket .ensures) in
-    let after = ap (λ (r : Reply). r .hub) (c .before .before .close .ensures) ∙ ap₂ (λ (t : ℕ) (h : Hub). closeHub t h .after) (c .before .before .before .close-ticket .ensures) fed in
+    ap (λ (r : Reply). r .hub) (c .before .before .before .before .feed .ensures)
+    ∙ ap (λ (t : ℕ). feedHub t bytes (l .current) .after) (c .before .before .before .before .before .feed-ticket .ensures) in
+    let after = ap (λ (r : Reply). r .hub) (c .before .before .close .ensures)
+    ∙ ap₂ (λ (t : ℕ) (h : Hub). closeHub t h .after) (c .before .before .before .close-ticket .ensures) fed in
     (omega arith, rounds-next _ _ (l .i) (l .current) _ (omega arith) after ∙ l .inv .1)
 
 returns : tie.Need-returns Inv-loop μ-loop

@@ -1,4 +1,5 @@
--- `mainloop::serve_in_place` meets its contract: a walk of its MIR, by hand. The hub lies in the local _4 and is lent twice in each turn of the loop, to `feed` and to `close`.
+-- `mainloop::serve_in_place` meets its contract: a walk of its MIR, by hand. The hub lies in the local _4 and is lent twice in each turn of the loop, to `feed`
+-- and to `close`.
 --     State    what a turn begins with: how many rounds were made, and the hub, from which the rounds that are left make what all make of the first
 --     At       the context that a turn begins with.        turns     one turn from there, or the way out
 -- Assumes nothing.

@@ -78,12 +78,20 @@ returns c =
     let x1 : ℕ = c .before .before .before .before .before .before .before .before .word-of-bytes2 .result in
     let k0 : x0 ≡ window 0 key 0 = c .before .before .before .before .before .before .before .before .before .word-of-bytes .ensures in
     let k1 : x1 ≡ window 0 key 1 = c .before .before .before .before .before .before .before .before .word-of-bytes2 .ensures in
-    let m0 : c .before .before .before .before .before .before .before .word-of-bytes3 .result ≡ window 0 message 0 = c .before .before .before .before .before .before .before .word-of-bytes3 .ensures in
-    let m1 : c .before .before .before .before .before .before .word-of-bytes4 .result ≡ window 0 message 1 = c .before .before .before .before .before .before .word-of-bytes4 .ensures in
-    let first : c .before .before .before .before .before .start-word .result ≡ startWord (length message) t = c .before .before .before .before .before .start-word .ensures in
-    let permuted : p ≡ s = c .before .before .before .before .permute .ensures ∙ ap run (rw (first, k0, k1, m0, m1) (started key message t bytes bytes′ (pre .0) (pre .1) (pre .2))) in
-    let copied : c .before .before .copy-bytes .last .1 .1 .0 ≡ bytesFrom (40 - t) t (getD p 0 0 ∷ getD p 1 0 ∷ getD p 2 0 ∷ bitXor (getD p 3 0) x0 ∷ bitXor (getD p 4 0) x1 ∷ []) = c .before .before .copy-bytes .ensures in
-    let read : c .before .before .copy-bytes .last .1 .1 .0 ≡ bytesFrom (40 - t) t (getD s 0 0 ∷ getD s 1 0 ∷ getD s 2 0 ∷ bitXor (getD s 3 0) (window 0 key 0) ∷ bitXor (getD s 4 0) (window 0 key 1) ∷ []) = copied ∙ rw (permuted, k0, k1) in
+    let m0 : c .before .before .before .before .before .before .before .word-of-bytes3 .result ≡ window 0 message 0 =
+    c .before .before .before .before .before .before .before .word-of-bytes3 .ensures in
+    let m1 : c .before .before .before .before .before .before .word-of-bytes4 .result ≡ window 0 message 1 =
+    c .before .before .before .before .before .before .word-of-bytes4 .ensures in
+    let first : c .before .before .before .before .before .start-word .result ≡ startWord (length message) t =
+    c .before .before .before .before .before .start-word .ensures in
+    let permuted : p ≡ s = c .before .before .before .before .permute .ensures
+    ∙ ap run (rw (first, k0, k1, m0, m1) (started key message t bytes bytes′ (pre .0) (pre .1) (pre .2))) in
+    let copied : c .before .before .copy-bytes .last .1 .1 .0
+    ≡ bytesFrom (40 - t) t (getD p 0 0 ∷ getD p 1 0 ∷ getD p 2 0 ∷ bitXor (getD p 3 0) x0 ∷ bitXor (getD p 4 0) x1
+    ∷ []) = c .before .before .copy-bytes .ensures in
+    let read : c .before .before .copy-bytes .last .1 .1 .0
+    ≡ bytesFrom (40 - t) t (getD s 0 0 ∷ getD s 1 0 ∷ getD s 2 0 ∷ bitXor (getD s 3 0) (window 0 key 0) ∷ bitXor (getD s 4 0) (window 0 key 1)
+    ∷ []) = copied ∙ rw (permuted, k0, k1) in
     read ∙ ap (bytesFrom (40 - t) t) (masked s key (run-state (wordsOf 5 (start key message t)) .five) (pre .0))
     ∙ last-xored s key t (run-state (wordsOf 5 (start key message t)) .five) bytes (pre .0) (pre .2)
 

@@ -13,7 +13,8 @@ use Rattle.prf_short.proofs.prf_short.Statement.{statement}
 use Rattle.prf_short.proofs.prf_short.Tie as tie
 
 -- where nothing is wrong with the output's length, it is the buffer's
-fits : (c : tie.Else3) → wrongOutput (length (c .before .before .before .before .before .before .before .args .out .now)) (c .before .before .before .before .before .before .before .args .length) ≡ false
+fits : (c : tie.Else3) → wrongOutput (length (c .before .before .before .before .before .before .before .args .out .now))
+    (c .before .before .before .before .before .before .before .args .length) ≡ false
 fits c = sym (c .before .wrong-output .ensures) ∙ c .if3 .left
 
 well-lent : (c : tie.Else3)

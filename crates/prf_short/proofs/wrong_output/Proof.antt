@@ -18,7 +18,8 @@ returns-2 c = sym (too-many-asked _ _ (c .before .if1 .left) (c .if2 .taken))
 returns-3 : tie.Need-returns-3
 returns-3 c =
     let a = c .before .before .args in
-    let last : wrongOutput (a .lent) (a .length) ≡ not (eqb (a .lent) (a .length)) = rw (le-ltb (a .length) 1 (c .before .if1 .left), le-ltb 16 (a .length) (c .if2 .left)) in
+    let last : wrongOutput (a .lent) (a .length) ≡ not (eqb (a .lent) (a .length)) =
+    rw (le-ltb (a .length) 1 (c .before .if1 .left), le-ltb 16 (a .length) (c .if2 .left)) in
     sym last
 
 pub wrong-output-spec : {M : Type 1} → statement M

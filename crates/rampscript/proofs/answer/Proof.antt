@@ -1,4 +1,4 @@
--- `answer` meets its contract. The loop: the bytes before the place were fed.
+-- `rampscript::answer` meets its contract. The loop: the bytes before the place were fed.
 -- Assumes nothing.
 use mathlib.Core.Path.{sym, ap}
 use Prim.Native.Nat.{_-_, _≤_}
@@ -41,13 +41,24 @@ write-all-requires : tie.Need-write-all-requires Inv-loop μ-loop
 write-all-requires c κs = search needs
 
 returns : tie.Need-returns Inv-loop μ-loop
-returns c = answers-failed _ _ _ _ _ (answers-next _ _ _ _ _ (c .before .before .before .before .before .before .before .loop-test .taken) _ _ (c .before .before .before .before .fill .ensures .0) (c .before .before .before .before .fill .ensures .1 .0) (c .before .before .before .before .before .before .before .before .loop .inv))
+returns c = answers-failed _ _ _ _ _ (answers-next _ _ _ _ _ (c .before .before .before .before .before .before .before .loop-test .taken) _ _
+    (c .before .before .before .before .fill .ensures .0) (c .before .before .before .before .fill .ensures .1 .0)
+    (c .before .before .before .before .before .before .before .before .loop .inv))
 
 loop-less : tie.Need-loop-less Inv-loop μ-loop
-loop-less c = omega (arith, answers-ahead (readerOf (c .before .before .before .before .before .before .before .before .before .before .before .args .first) (now (c .before .before .before .before .before .before .before .before .before .before .before .args .line))) _ _ _ _ (c .before .before .before .before .before .before .before .loop-test .taken) _ _ (c .before .before .before .before .fill .ensures .0) (c .before .before .before .before .fill .ensures .1 .0), c .before .before .before .before .before .before .before .loop-test .taken)
+loop-less c = omega (
+  arith,
+  answers-ahead (readerOf (c .before .before .before .before .before .before .before .before .before .before .before .args .first)
+      (now (c .before .before .before .before .before .before .before .before .before .before .before .args .line))) _ _ _ _
+      (c .before .before .before .before .before .before .before .loop-test .taken) _ _ (c .before .before .before .before .fill .ensures .0)
+      (c .before .before .before .before .fill .ensures .1 .0),
+  c .before .before .before .before .before .before .before .loop-test .taken,
+)
 
 loop-again : tie.Need-loop-again Inv-loop μ-loop
-loop-again c = answers-next _ _ _ _ _ (c .before .before .before .before .before .before .before .loop-test .taken) _ _ (c .before .before .before .before .fill .ensures .0) (c .before .before .before .before .fill .ensures .1 .0) (c .before .before .before .before .before .before .before .before .loop .inv)
+loop-again c = answers-next _ _ _ _ _ (c .before .before .before .before .before .before .before .loop-test .taken) _ _
+    (c .before .before .before .before .fill .ensures .0) (c .before .before .before .before .fill .ensures .1 .0)
+    (c .before .before .before .before .before .before .before .before .loop .inv)
 
 returns-2 : tie.Need-returns-2 Inv-loop μ-loop
 returns-2 c = answers-done _ _ _ _ _ (c .before .loop .inv) (c .loop-test .left)

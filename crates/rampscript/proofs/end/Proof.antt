@@ -1,4 +1,4 @@
--- `end` meets its contract: what is still printed stands in the buffer.
+-- `rampscript::end` meets its contract: what is still printed stands in the buffer.
 -- Assumes nothing.
 use mathlib.Core.Path.{sym, ap}
 use Prim.Native.Nat.{_≤_}

@@ -1,4 +1,4 @@
--- `read_failed` meets its contract.
+-- `rampscript::read_failed` meets its contract.
 -- Assumes nothing.
 use mathlib.Core.Path.{refl}
 use mathlib.Core.Bool.{false≢true}

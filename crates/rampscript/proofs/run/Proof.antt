@@ -1,4 +1,4 @@
--- `run` meets its contract. The loop: the chunks that were read were fed; and with each turn fewer bytes may still be read.
+-- `rampscript::run` meets its contract. The loop: the chunks that were read were fed; and with each turn fewer bytes may still be read.
 -- Assumes nothing.
 use mathlib.Core.Path.{sym, _∙_}
 use borrow.Author.Needs.{needs}
@@ -25,13 +25,16 @@ more-requires : tie.Need-more-requires Inv-loop μ-loop
 more-requires c κs = search needs
 
 returns : tie.Need-returns Inv-loop μ-loop
-returns c = run-over _ _ _ _ (c .before .before .before .before .loop .inv) (c .before .before .make-turn .ensures) (sym (c .before .more .ensures) ∙ not-true (c .before .more .result) (c .if1 .taken))
+returns c = run-over _ _ _ _ (c .before .before .before .before .loop .inv) (c .before .before .make-turn .ensures)
+    (sym (c .before .more .ensures) ∙ not-true (c .before .more .result) (c .if1 .taken))
 
 loop-less : tie.Need-loop-less Inv-loop μ-loop
-loop-less c = fewer _ _ _ _ (c .before .before .before .before .before .loop .inv) (c .before .before .before .make-turn .ensures) (sym (c .before .before .more .ensures) ∙ not-false (c .before .before .more .result) (c .before .if1 .left))
+loop-less c = fewer _ _ _ _ (c .before .before .before .before .before .loop .inv) (c .before .before .before .make-turn .ensures)
+    (sym (c .before .before .more .ensures) ∙ not-false (c .before .before .more .result) (c .before .if1 .left))
 
 loop-again : tie.Need-loop-again Inv-loop μ-loop
-loop-again c = made-more _ _ _ _ (c .before .before .before .before .before .loop .inv) (c .before .before .before .make-turn .ensures) (sym (c .before .before .more .ensures) ∙ not-false (c .before .before .more .result) (c .before .if1 .left))
+loop-again c = made-more _ _ _ _ (c .before .before .before .before .before .loop .inv) (c .before .before .before .make-turn .ensures)
+    (sym (c .before .before .more .ensures) ∙ not-false (c .before .before .more .result) (c .before .if1 .left))
 
 pub run-spec : {M : Type 1} → statement M
 run-spec =

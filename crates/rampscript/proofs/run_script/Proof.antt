@@ -1,4 +1,4 @@
--- `run_script` meets its contract.
+-- `rampscript::run_script` meets its contract.
 -- Assumes nothing.
 use borrow.Author.Tests.{not-true, not-false}
 use Rattle.rampscript.proofs.Turns.{ending-none, ending-early, ending-whole}
@@ -16,16 +16,22 @@ run-requires : tie.Need-run-requires
 run-requires c κs = search needs
 
 returns-2 : tie.Need-returns-2
-returns-2 c = let w = rw (c .before .before .before .before .before .before .before .start .ensures) at (c .before .before .run .ensures) in let e = c .if2 .taken in ending-early _ _ _ w (rw e)
+returns-2 c = let w = rw (c .before .before .before .before .before .before .before .start .ensures) at (c .before .before .run .ensures) in let e =
+    c .if2 .taken in ending-early _ _ _ w (rw e)
 
 returns-3 : tie.Need-returns-3
-returns-3 c = let w = rw (c .before .before .before .before .before .before .before .before .start .ensures) at (c .before .before .before .run .ensures) in let e = c .before .if2 .left in let f = not-true (c .before .before .before .run .result .wrote) (c .if3 .taken) in ending-early _ _ _ w (rw (e, f))
+returns-3 c = let w = rw (c .before .before .before .before .before .before .before .before .start .ensures) at
+    (c .before .before .before .run .ensures) in let e = c .before .if2 .left in let f =
+    not-true (c .before .before .before .run .result .wrote) (c .if3 .taken) in ending-early _ _ _ w (rw (e, f))
 
 end-requires : tie.Need-end-requires
 end-requires c κs = search needs
 
 returns-4 : tie.Need-returns-4
-returns-4 c = let w = rw (c .before .before .before .before .before .before .before .before .before .before .start .ensures) at (c .before .before .before .before .before .run .ensures) in let e = c .before .before .before .if2 .left in let f = not-false (c .before .before .before .before .before .run .result .wrote) (c .before .before .if3 .left) in ending-whole _ _ _ w _ _ (rw (e, f)) (c .end .ensures .0) (c .end .ensures .1)
+returns-4 c = let w = rw (c .before .before .before .before .before .before .before .before .before .before .start .ensures) at
+    (c .before .before .before .before .before .run .ensures) in let e = c .before .before .before .if2 .left in let f =
+    not-false (c .before .before .before .before .before .run .result .wrote) (c .before .before .if3 .left) in ending-whole _ _ _ w _ _ (rw (e, f))
+    (c .end .ensures .0) (c .end .ensures .1)
 
 pub run-script-spec : {M : Type 1} → statement M
 run-script-spec =

@@ -1,4 +1,4 @@
--- `start` meets its contract: the names stand in the buffer.
+-- `rampscript::start` meets its contract: the names stand in the buffer.
 -- Assumes nothing.
 use mathlib.Core.Path.{sym, ap}
 use Prim.Native.Nat.{_≤_}

@@ -15,7 +15,8 @@ same-length c = search needs
 returns : tie.Need-returns
 returns c =
     let a = c .before .before .before .before .before .before .before .args in
-    let answered : c .before .before .prf-short .result ≡ shortAnswer (a .key .now) (a .message .now) (a .out .now) (a .length) = c .before .before .prf-short .ensures .0 in
+    let answered : c .before .before .prf-short .result ≡ shortAnswer (a .key .now) (a .message .now) (a .out .now) (a .length) =
+    c .before .before .prf-short .ensures .0 in
     (answered, c .before .before .prf-short .ensures .1)
 
 pub ascon-prf-short-spec : {M : Type 1} → statement M

@@ -10,7 +10,8 @@ use Rattle.sign.proofs.ascon_verify_frame.Statement.{statement}
 use Rattle.sign.proofs.ascon_verify_frame.Tie as tie
 
 -- the number of what was answered is the promised one
-promised : (c : tie.After-verify) → judgedNumber (c .verify .result) ≡ judgedNumber (verifyAnswer (c .before .before .before .args .key .now) (c .before .before .before .args .frame .now) (c .before .before .before .args .body))
+promised : (c : tie.After-verify) → judgedNumber (c .verify .result)
+    ≡ judgedNumber (verifyAnswer (c .before .before .before .args .key .now) (c .before .before .before .args .frame .now) (c .before .before .before .args .body))
 promised c = ap judgedNumber (c .verify .ensures)
 
 verify-requires : tie.Need-verify-requires

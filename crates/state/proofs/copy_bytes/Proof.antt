@@ -49,7 +49,8 @@ add-i : tie.Need-add-i Inv-loop μ-loop
 add-i c =
     let now = c .before .before .before .before .before .before .before .before .loop in
     let a = c .before .before .before .before .before .before .before .before .before .before .args in
-    let word = whole (a .place + now .i) (length (now .out) - now .i) (sym (c .before .before .before .before .before .before .whole-word .ensures) ∙ c .before .before .before .before .before .if1 .taken) in
+    let word = whole (a .place + now .i) (length (now .out) - now .i)
+    (sym (c .before .before .before .before .before .before .whole-word .ensures) ∙ c .before .before .before .before .before .if1 .taken) in
     omega arith
 
 loop-less : tie.Need-loop-less Inv-loop μ-loop
@@ -57,8 +58,10 @@ loop-less c =
     let put = c .before .before in
     let now = c .before .before .before .before .before .before .before .before .loop in
     let a = c .before .before .before .before .before .before .before .before .before .before .args in
-    let word = whole (a .place + now .i) (length (now .out) - now .i) (sym (c .before .before .before .before .before .before .whole-word .ensures) ∙ c .before .before .before .before .before .if1 .taken) in
-    let same : length (put .put-word .last .0) ≡ length (now .out) = rw (put .put-word .ensures) (length-sets (now .out) (now .i) (toBytes 8 (put .before .word-of .result))) in
+    let word = whole (a .place + now .i) (length (now .out) - now .i)
+    (sym (c .before .before .before .before .before .before .whole-word .ensures) ∙ c .before .before .before .before .before .if1 .taken) in
+    let same : length (put .put-word .last .0) ≡ length (now .out) = rw (put .put-word .ensures)
+    (length-sets (now .out) (now .i) (toBytes 8 (put .before .word-of .result))) in
     omega arith
 
 loop-again : tie.Need-loop-again Inv-loop μ-loop
@@ -68,7 +71,8 @@ loop-again c =
     let x = put .before .word-of in
     let now = c .before .before .before .before .before .before .before .before .loop in
     let a = c .before .before .before .before .before .before .before .before .before .before .args in
-    let word = whole (a .place + now .i) (length (now .out) - now .i) (sym (c .before .before .before .before .before .before .whole-word .ensures) ∙ c .before .before .before .before .before .if1 .taken) in
+    let word = whole (a .place + now .i) (length (now .out) - now .i)
+    (sym (c .before .before .before .before .before .before .whole-word .ensures) ∙ c .before .before .before .before .before .if1 .taken) in
     let index : 8 * ((a .place + now .i) / 8) ≡ a .place + now .i = omega arith in
     let eight : toBytes 8 (x .result) ≡ bytesFrom (a .place + now .i) 8 (a .words) =
     ap (toBytes 8) (x .ensures) ∙ sym (bytesFrom-word (a .words) ((a .place + now .i) / 8)) ∙ ap (λ (k : ℕ). bytesFrom k 8 (a .words)) index in

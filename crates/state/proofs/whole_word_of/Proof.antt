@@ -33,7 +33,8 @@ returns c =
 returns-2 : tie.Need-returns-2
 returns-2 c =
     let a = c .before .before .args in
-    let count : length (wholeWords (a .bytes .now)) ≡ 8 * (length (a .bytes .now) / 8) = length-take-le (8 * (length (a .bytes .now) / 8)) (a .bytes .now) (omega arith) in
+    let count : length (wholeWords (a .bytes .now)) ≡ 8 * (length (a .bytes .now) / 8) =
+    length-take-le (8 * (length (a .bytes .now) / 8)) (a .bytes .now) (omega arith) in
     sym (window-before (wholeWords (a .bytes .now)) 0 (a .j) (omega arith))
 
 pub whole-word-of-spec : {M : Type 1} → statement M

@@ -37,8 +37,11 @@ loop-holds c =
     let a = c .before .before .before .args in
     let least = c .before .shorter .ensures in
     let n = c .excess .result in
-    let gap : n ≡ 8 * (a .start / 8) - a .k = omega (arith, c .excess .ensures) in
-    (omega (arith, c .excess .ensures), omega (arith, c .excess .ensures), window-from (a .bytes .now) n (a .k) (a .start / 8) (omega (arith, c .excess .ensures)) gap)
+    let gap : n ≡ 8 * (a .start / 8) - a .k = omega (arith, c .excess .ensures) in (
+      omega (arith, c .excess .ensures),
+      omega (arith, c .excess .ensures),
+      window-from (a .bytes .now) n (a .k) (a .start / 8) (omega (arith, c .excess .ensures)) gap,
+    )
 
 shared-slice-read-wide : tie.Need-shared-slice-read-wide Inv-loop μ-loop
 shared-slice-read-wide c = omega arith
@@ -76,7 +79,8 @@ loop-again c =
     let left : ℕ = window (a .k + (now .i + 1)) (drop (now .i + 1) bytes) (a .start / 8) in
     let byte : b < 256 = omega (arith, c .before .before .before .before .before .before .shared-slice-known .given (now .i)) in
     let shifted : (b * w) % 2 ^ 64 ≡ b * w = shl-exact 8 (8 * (7 - (a .k + now .i) % 8)) 64 byte (omega arith) in
-    let next : window (a .k + now .i) (drop (now .i) bytes) (a .start / 8) ≡ bitXor (b * w) left = window-next bytes (a .k) (now .i) (a .start / 8) (omega arith) (omega arith) in (
+    let next : window (a .k + now .i) (drop (now .i) bytes) (a .start / 8) ≡ bitXor (b * w) left =
+    window-next bytes (a .k) (now .i) (a .start / 8) (omega arith) (omega arith) in (
       omega arith,
       omega arith,
       rw (c .wide .ensures, shifted) (xor-assoc (now .x) (b * w) left ∙ ap (bitXor (now .x)) (sym next) ∙ now .inv .2),
@@ -87,7 +91,8 @@ returns c =
     let a = c .before .before .before .before .before .args in
     let last = c .before .loop in
     let least = c .before .before .before .shorter .ensures in
-    let none : window (a .k + last .i) (drop (last .i) (a .bytes .now)) (a .start / 8) ≡ 0 = window-done (a .bytes .now) (a .k) (last .i) (a .start / 8) (λ l. omega arith) in
+    let none : window (a .k + last .i) (drop (last .i) (a .bytes .now)) (a .start / 8) ≡ 0 =
+    window-done (a .bytes .now) (a .k) (last .i) (a .start / 8) (λ l. omega arith) in
     sym (xor-zero-r (last .x)) ∙ ap (bitXor (last .x)) (sym none) ∙ last .inv .2
 
 pub window-part-spec : {M : Type 1} → statement M

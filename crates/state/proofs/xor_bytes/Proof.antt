@@ -43,7 +43,14 @@ window-requires-5 c κs = search needs
 returns : tie.Need-returns
 returns c =
     let a = c .before .before .before .before .before .before .args in
-    rw (c .window5 .ensures, c .before .window4 .ensures, c .before .before .window3 .ensures, c .before .before .before .window2 .ensures, c .before .before .before .before .window .ensures) (sym (xorFrom-words 5 (a .bytes .now) (a .t1) (a .place) (five (c .before .before .before .before .before .before))))
+    rw (
+      c .window5 .ensures,
+      c .before .window4 .ensures,
+      c .before .before .window3 .ensures,
+      c .before .before .before .window2 .ensures,
+      c .before .before .before .before .window .ensures,
+    ) (sym
+    (xorFrom-words 5 (a .bytes .now) (a .t1) (a .place) (five (c .before .before .before .before .before .before))))
 
 pub xor-bytes-spec : {M : Type 1} → statement M
 xor-bytes-spec =

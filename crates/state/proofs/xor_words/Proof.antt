@@ -44,7 +44,14 @@ whole-word-of-requires-5 c κs = search needs
 returns : tie.Need-returns
 returns c =
     let a = c .before .before .before .before .before .before .args in
-    rw (c .whole-word-of5 .ensures, c .before .whole-word-of4 .ensures, c .before .before .whole-word-of3 .ensures, c .before .before .before .whole-word-of2 .ensures, c .before .before .before .before .whole-word-of .ensures) (sym (xorFrom-words 5 (wholeWords (a .bytes .now)) (a .t1) 0 (five (c .before .before .before .before .before .before))))
+    rw (
+      c .whole-word-of5 .ensures,
+      c .before .whole-word-of4 .ensures,
+      c .before .before .whole-word-of3 .ensures,
+      c .before .before .before .whole-word-of2 .ensures,
+      c .before .before .before .before .whole-word-of .ensures,
+    )
+    (sym (xorFrom-words 5 (wholeWords (a .bytes .now)) (a .t1) 0 (five (c .before .before .before .before .before .before))))
 
 pub xor-words-spec : {M : Type 1} → statement M
 xor-words-spec =

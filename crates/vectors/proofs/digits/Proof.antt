@@ -11,7 +11,8 @@ slice-aggregate-output : tie.Need-slice-aggregate-output
 slice-aggregate-output c = sym (length-take-le 16 (c .before .before .before .before .args .bytes .now) (omega arith))
 
 slice-aggregate-output-2 : tie.Need-slice-aggregate-output-2
-slice-aggregate-output-2 c = sym (length-take-le (c .before .before .before .before .before .args .n) (c .before .before .before .before .before .args .bytes .now) (omega arith))
+slice-aggregate-output-2 c = sym (length-take-le (c .before .before .before .before .before .args .n)
+    (c .before .before .before .before .before .args .bytes .now) (omega arith))
 
 output-requires : tie.Need-output-requires
 output-requires c κs = search needs

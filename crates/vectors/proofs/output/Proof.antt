@@ -24,7 +24,12 @@ same-length c = search needs
 returns : tie.Need-returns
 returns c =
     let a = c .before .before .before .before .before .before .before .before .before .before .args in
-    rw (c .before .before .squeeze .ensures .1, c .before .before .before .before .finish .ensures, c .before .before .before .before .before .absorb-in-pieces .ensures, c .before .before .before .before .before .before .fresh .ensures)
+    rw (
+      c .before .before .squeeze .ensures .1,
+      c .before .before .before .before .finish .ensures,
+      c .before .before .before .before .before .absorb-in-pieces .ensures,
+      c .before .before .before .before .before .before .fresh .ensures,
+    )
     (calls-all-bytes 1 (a .mode) (a .key .now) (a .message .now) (length (a .out .now)))
 
 pub output-spec : {M : Type 1} → statement M

@@ -22,7 +22,11 @@ nth-length-requires : tie.Need-nth-length-requires Inv-loop μ-loop
 nth-length-requires c κs = search needs
 
 digits-requires : tie.Need-digits-requires Inv-loop μ-loop
-digits-requires c κs = (omega arith, omega (arith, c .before .before .nth-length .ensures, length-most (c .before .before .before .before .loop .i)), omega (arith, c .before .before .before .before .loop .inv .1, c .before .before .before .before .loop .inv .2))
+digits-requires c κs = (
+  omega arith,
+  omega (arith, c .before .before .nth-length .ensures, length-most (c .before .before .before .before .loop .i)),
+  omega (arith, c .before .before .before .before .loop .inv .1, c .before .before .before .before .loop .inv .2),
+)
 
 print-line-requires : tie.Need-print-line-requires Inv-loop μ-loop
 print-line-requires c κs = search needs

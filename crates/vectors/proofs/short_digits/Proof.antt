@@ -7,7 +7,7 @@ use lib.ListN.{length, take}
 use lib.Seq.{length-take-le}
 use borrow.Author.Needs.{needs}
 use Rattle.prf_short.proofs.Refusals.{well-lent, short-done}
-use Rattle.vectors.specs.Text.{hexOf}
+use Rattle.script.specs.Hex.{hexOf}
 use Rattle.vectors.proofs.short_digits.Statement.{statement}
 use Rattle.vectors.proofs.short_digits.Tie as tie
 
@@ -35,7 +35,8 @@ returns c =
     let a = called .before .before .before .before .before .before .before .args in
     let pre = called .before .before .before .before .before .before .before .pre in
     let t : ℕ = length (a .out .now) in
-    let done = short-done (take 16 (a .bytes .now)) (take (a .m) (a .bytes .now)) (a .out .now) t (length-take-le 16 (a .bytes .now) (pre .0)) (omega (arith, length-take-le (a .m) (a .bytes .now) (omega arith))) (well-lent t t (pre .2) (pre .3) refl) in
+    let done = short-done (take 16 (a .bytes .now)) (take (a .m) (a .bytes .now)) (a .out .now) t (length-take-le 16 (a .bytes .now) (pre .0))
+    (omega (arith, length-take-le (a .m) (a .bytes .now) (omega arith))) (well-lent t t (pre .2) (pre .3) refl) in
     c .before .before .hex .ensures ∙ ap hexOf (called .prf-short .ensures .1 ∙ done .1)
 
 pub short-digits-spec : {M : Type 1} → statement M

@@ -1,3 +1,5 @@
+-- `bench::feeds::bench_feeds_by_value` meets its contract.
+-- Assumes nothing.
 use borrow.Author.Needs.{needs}
 use Rattle.bench.proofs.FeedCounts.{count-given}
 use Rattle.bench.proofs.feeds.bench_feeds_by_value.Statement.{statement}

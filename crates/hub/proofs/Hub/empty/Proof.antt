@@ -1,3 +1,5 @@
+-- `hub::Hub::empty` meets its contract.
+-- Assumes nothing.
 use mathlib.Core.Path.{ap}
 use lib.ListN.{replicate}
 use borrow.Author.Needs.{needs}

@@ -1,3 +1,5 @@
+-- `hub::Hub::refuse` meets its contract.
+-- Assumes nothing.
 use mathlib.Core.Path.{ap}
 use borrow.Author.Needs.{needs}
 use Rattle.calls.specs.declared.Answer.{Answer}

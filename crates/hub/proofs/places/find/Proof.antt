@@ -1,4 +1,5 @@
--- The invariant: what is left of the search finds the place as many places further.
+-- `hub::places::find` meets its contract. The loop's invariant: what is left of the search finds the place as many places further.
+-- Assumes nothing.
 use mathlib.Core.Path.{_≡_}
 use mathlib.Core.Logic.{_≢_}
 use Prim.Native.Nat.{ℕ, _≤_, _-_, _+_}

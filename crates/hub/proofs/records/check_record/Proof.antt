@@ -1,3 +1,5 @@
+-- `hub::records::check_record` meets its contract.
+-- Assumes nothing.
 use mathlib.Core.Bool.{false, not}
 use mathlib.Core.Path.{_≡_, sym, ap, ap₂, _∙_}
 use borrow.Author.Tests.{eq-eqb, ne-eqb}
@@ -49,7 +51,8 @@ refused-requires-3 c κs = search needs
 returns-3 : tie.Need-returns-3
 returns-3 c =
     let wrong = sym (c .before .before .wrong-tag-length .ensures) ∙ c .before .if3 .taken in
-    c .refused3 .ensures ∙ ap workedOf (sym (check-4 _ _ _ (c .before .before .before .before .before .before .if1 .left) (is-mac (c .before .before .before)) wrong))
+    c .refused3 .ensures ∙ ap workedOf (sym (check-4 _ _ _ (c .before .before .before .before .before .before .if1 .left)
+    (is-mac (c .before .before .before)) wrong))
 
 finish-requires : tie.Need-finish-requires
 finish-requires c κs = search needs
@@ -70,7 +73,8 @@ returns-4 c =
     let verdict = c .before .before .tag-matches .ensures ∙ ap (tagMatches _) e in
     let told : c .judged .result ≡ judged (c .before .before .tag-matches .result) (c .before .runs .result) = c .judged .ensures in
     ap₂ (λ (r : Record) (a : Answer). record { after = r; answer = a }) e (told ∙ ap₂ judged verdict (c .before .runs .ensures ∙ ap (λ (r : Record). r .runs) e))
-    ∙ ap workedOf (sym (check-done _ _ _ (c .before .before .before .before .before .before .before .before .before .if1 .left) (is-mac (c .before .before .before .before .before .before)) right))
+    ∙ ap workedOf (sym (check-done _ _ _ (c .before .before .before .before .before .before .before .before .before .if1 .left)
+    (is-mac (c .before .before .before .before .before .before)) right))
 
 pub check-record-spec : {M : Type 1} → statement M
 check-record-spec =

@@ -1,3 +1,5 @@
+-- `hub::records::close_record` meets its contract.
+-- Assumes nothing.
 use mathlib.Core.Path.{sym, ap, ap₂, _∙_}
 use Rattle.sponge.specs.declared.record.Record.{Record}
 use Rattle.calls.specs.declared.Answer.{Answer}
@@ -25,7 +27,8 @@ counted-requires c κs = search needs
 
 returns-2 : tie.Need-returns-2
 returns-2 c =
-    ap₂ (λ (r : Record) (a : Answer). record { after = r; answer = a }) (c .before .before .vacant .ensures) (c .counted .ensures ∙ ap counted (c .before .runs .ensures))
+    ap₂ (λ (r : Record) (a : Answer). record { after = r; answer = a }) (c .before .before .vacant .ensures)
+    (c .counted .ensures ∙ ap counted (c .before .runs .ensures))
     ∙ ap workedOf (sym (close-done _ _ (c .before .before .before .if1 .left)))
 
 pub close-record-spec : {M : Type 1} → statement M

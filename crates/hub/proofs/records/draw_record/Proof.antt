@@ -1,3 +1,5 @@
+-- `hub::records::draw_record` meets its contract.
+-- Assumes nothing.
 use mathlib.Core.Bool.{false}
 use mathlib.Core.Path.{_≡_, sym, ap, ap₂, _∙_}
 use Prim.Native.Nat.{ℕ, _+_, _≤_}
@@ -21,24 +23,41 @@ use Rattle.hub.proofs.records.draw_record.Statement.{statement}
 use Rattle.hub.proofs.records.draw_record.Tie as tie
 
 -- what the checks find
-room : (c : tie.Else2) → ltb (length (c .before .before .before .before .args .buffer .now)) (c .before .before .before .before .args .place + c .before .before .before .before .args .count) ≡ false
+room : (c : tie.Else2) → ltb (length (c .before .before .before .before .args .buffer .now))
+    (c .before .before .before .before .args .place + c .before .before .before .before .args .count) ≡ false
 room c = sym (c .before .exceeds .ensures) ∙ c .if2 .left
 
-inside : (c : tie.Else2) → c .before .before .before .before .args .place + c .before .before .before .before .args .count ≤ length (c .before .before .before .before .args .buffer .now)
+inside : (c : tie.Else2) → c .before .before .before .before .args .place + c .before .before .before .before .args .count
+    ≤ length (c .before .before .before .before .args .buffer .now)
 inside c = ltb-false _ _ (room c)
 
-exceeded : (c : tie.After-exceeds2) → c .exceeds2 .result ≡ ltb (row (c .before .before .before .before .before .before .before .before .args .before .mode) .mostDrawn) (c .before .before .before .before .before .before .before .before .args .before .drawn + c .before .before .before .before .before .before .before .before .args .count)
+exceeded : (c : tie.After-exceeds2) → c .exceeds2 .result
+    ≡ ltb (row (c .before .before .before .before .before .before .before .before .args .before .mode) .mostDrawn)
+    (c .before .before .before .before .before .before .before .before .args .before .drawn
+    + c .before .before .before .before .before .before .before .before .args .count)
 exceeded c =
     c .exceeds2 .ensures
     ∙ ap₂ (λ (most drawn : ℕ). ltb most (drawn + c .before .before .before .before .before .before .before .before .args .count))
     (c .before .before .most-drawn .ensures ∙ ap (λ (mode : Mode). row mode .mostDrawn) (c .before .before .before .mode .ensures)) (c .before .drawn .ensures)
 
 -- what was drawn: as many bytes as the part that was lent has
-drawn-record : (c : tie.After-squeeze) → c .squeeze .result ≡ squeezed (c .before .before .before .before .before .before .before .before .before .before .before .before .args .count) (finished (c .before .before .before .before .before .before .before .before .before .before .before .before .args .before))
-drawn-record c = rw (c .squeeze .ensures .0, c .before .before .finish .ensures, part-length _ _ _ (inside (c .before .before .before .before .before .before .before .before)))
+drawn-record : (c : tie.After-squeeze) → c .squeeze .result
+    ≡ squeezed (c .before .before .before .before .before .before .before .before .before .before .before .before .args .count)
+    (finished (c .before .before .before .before .before .before .before .before .before .before .before .before .args .before))
+drawn-record c = rw (
+  c .squeeze .ensures .0,
+  c .before .before .finish .ensures,
+  part-length _ _ _ (inside (c .before .before .before .before .before .before .before .before)),
+)
 
-drawn-bytes : (c : tie.After-squeeze) → c .squeeze .last .1 .0 ≡ nextBytes (c .before .before .before .before .before .before .before .before .before .before .before .before .args .count) (finished (c .before .before .before .before .before .before .before .before .before .before .before .before .args .before))
-drawn-bytes c = rw (c .squeeze .ensures .1, c .before .before .finish .ensures, part-length _ _ _ (inside (c .before .before .before .before .before .before .before .before)))
+drawn-bytes : (c : tie.After-squeeze) → c .squeeze .last .1 .0
+    ≡ nextBytes (c .before .before .before .before .before .before .before .before .before .before .before .before .args .count)
+    (finished (c .before .before .before .before .before .before .before .before .before .before .before .before .args .before))
+drawn-bytes c = rw (
+  c .squeeze .ensures .1,
+  c .before .before .finish .ensures,
+  part-length _ _ _ (inside (c .before .before .before .before .before .before .before .before)),
+)
 
 refused-requires : tie.Need-refused-requires
 refused-requires c κs = search needs
@@ -76,7 +95,8 @@ refused-requires-3 c κs = search needs
 
 returns-3 : tie.Need-returns-3
 returns-3 c =
-    let e = sym (draw-17 _ _ _ _ _ (c .before .before .before .before .before .before .before .before .if1 .left) (room (c .before .before .before .before .before .before)) (sym (exceeded (c .before .before)) ∙ c .before .if3 .taken)) in
+    let e = sym (draw-17 _ _ _ _ _ (c .before .before .before .before .before .before .before .before .if1 .left)
+    (room (c .before .before .before .before .before .before)) (sym (exceeded (c .before .before)) ∙ c .before .if3 .taken)) in
     (c .refused3 .ensures ∙ ap workedOf e, ap (λ (s : Step Record). s .response .buffer) e)
 
 finish-requires : tie.Need-finish-requires
@@ -106,7 +126,8 @@ same-length c = search needs
 returns-4 : tie.Need-returns-4
 returns-4 c =
     let few = sym (exceeded (c .before .before .before .before .before .before .before)) ∙ c .before .before .before .before .before .before .if3 .left in
-    let e = sym (draw-done _ _ _ _ _ (c .before .before .before .before .before .before .before .before .before .before .before .before .before .if1 .left) (room (c .before .before .before .before .before .before .before .before .before .before .before)) few) in
+    let e = sym (draw-done _ _ _ _ _ (c .before .before .before .before .before .before .before .before .before .before .before .before .before .if1 .left)
+    (room (c .before .before .before .before .before .before .before .before .before .before .before)) few) in
     let drawn = drawn-bytes (c .before .before .before) in
     let long = ap length drawn ∙ length-nextBytes _ _ ∙ sym (add-sub-cancel-left _ _) in (
       c .counted .ensures ∙ ap counting (drawn-record (c .before .before .before)) ∙ ap workedOf e,

@@ -1,3 +1,5 @@
+-- `hub::records::feed_record` meets its contract.
+-- Assumes nothing.
 use mathlib.Core.Bool.{false, not}
 use mathlib.Core.Path.{_≡_, sym, ap, _∙_}
 use Prim.Native.Nat.{ℕ, _+_}
@@ -14,9 +16,12 @@ use Rattle.hub.proofs.records.feed_record.Tie as tie
 lasts : (c : tie.Else2) → not (c .before .before .before .before .args .before .feeding) ≡ false
 lasts c = ap not (sym (c .before .feeding .ensures)) ∙ c .if2 .left
 
-exceeded : (c : tie.After-exceeds) → c .exceeds .result ≡ ltb mostFed (c .before .before .before .before .before .before .args .before .fed + length (c .before .before .before .before .before .before .args .bytes .now))
+exceeded : (c : tie.After-exceeds) → c .exceeds .result
+    ≡ ltb mostFed (c .before .before .before .before .before .before .args .before .fed
+    + length (c .before .before .before .before .before .before .args .bytes .now))
 exceeded c =
-    let e : c .exceeds .result ≡ ltb mostFed (c .before .fed .result + length (c .before .before .before .before .before .before .args .bytes .now)) = c .exceeds .ensures in
+    let e : c .exceeds .result ≡ ltb mostFed (c .before .fed .result + length (c .before .before .before .before .before .before .args .bytes .now)) =
+    c .exceeds .ensures in
     e ∙ ap (λ (n : ℕ). ltb mostFed (n + length (c .before .before .before .before .before .before .args .bytes .now))) (c .before .fed .ensures)
 
 refused-requires : tie.Need-refused-requires
@@ -47,7 +52,8 @@ refused-requires-3 c κs = search needs
 
 returns-3 : tie.Need-returns-3
 returns-3 c =
-    c .refused3 .ensures ∙ ap workedOf (sym (feed-16 _ _ _ (c .before .before .before .before .before .before .if1 .left) (lasts (c .before .before .before .before)) (sym (exceeded (c .before .before)) ∙ c .before .if3 .taken)))
+    c .refused3 .ensures ∙ ap workedOf (sym (feed-16 _ _ _ (c .before .before .before .before .before .before .if1 .left)
+    (lasts (c .before .before .before .before)) (sym (exceeded (c .before .before)) ∙ c .before .if3 .taken)))
 
 absorb-requires : tie.Need-absorb-requires
 absorb-requires c κs = search needs
@@ -58,7 +64,9 @@ counted-requires c κs = search needs
 returns-4 : tie.Need-returns-4
 returns-4 c =
     let few = sym (exceeded (c .before .before .before)) ∙ c .before .before .if3 .left in
-    c .counted .ensures ∙ ap counting (c .before .absorb .ensures) ∙ ap workedOf (sym (feed-done _ _ _ (c .before .before .before .before .before .before .before .if1 .left) (lasts (c .before .before .before .before .before)) few))
+    c .counted .ensures ∙ ap counting (c .before .absorb .ensures)
+    ∙ ap workedOf (sym (feed-done _ _ _ (c .before .before .before .before .before .before .before .if1 .left)
+    (lasts (c .before .before .before .before .before)) few))
 
 pub feed-record-spec : {M : Type 1} → statement M
 feed-record-spec =

@@ -1,3 +1,5 @@
+-- `hub::records::wrong_tag_length` meets its contract.
+-- Assumes nothing.
 use borrow.Author.Tests.{lt-ltb, le-ltb}
 use Rattle.hub.proofs.records.wrong_tag_length.Statement.{statement}
 use Rattle.hub.proofs.records.wrong_tag_length.Tie as tie

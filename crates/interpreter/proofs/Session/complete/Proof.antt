@@ -1,4 +1,4 @@
--- `complete` meets its contract.
+-- `interpreter::Session::complete` meets its contract.
 -- Assumes nothing.
 use borrow.Author.Tests.{eq-eqb, ne-eqb}
 use Rattle.interpreter.proofs.Session.complete.Statement.{statement}

@@ -1,4 +1,4 @@
--- `first` meets its contract.
+-- `interpreter::Session::first` meets its contract.
 -- Assumes nothing.
 use Rattle.interpreter.specs.Session.{begun}
 use borrow.Author.Needs.{needs}

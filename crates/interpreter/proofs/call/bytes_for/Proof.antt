@@ -1,4 +1,4 @@
--- `bytes_for` meets its contract.
+-- `interpreter::call::bytes_for` meets its contract.
 -- Assumes nothing.
 use mathlib.Core.Path.{_∙_}
 use Rattle.interpreter.proofs.Printing.{bytes-refused, bytes-accepted}

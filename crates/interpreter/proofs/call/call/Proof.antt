@@ -1,4 +1,4 @@
--- `call` meets its contract, for each verb.
+-- `interpreter::call::call` meets its contract, for each verb.
 -- Assumes nothing.
 use Rattle.interpreter.proofs.Calling.{open-called, feed-called, draw-called, check-called, close-called, sum-called}
 use borrow.Author.Needs.{needs}
@@ -57,7 +57,8 @@ same-length-3 : tie.Need-same-length-3
 same-length-3 c = search needs
 
 returns-3 : tie.Need-returns-3
-returns-3 c = draw-called _ _ _ _ _ _ (c .before .before .before .before .enum-told3 .given .1) (c .before .before .draw .ensures .0) (c .before .before .draw .ensures .1)
+returns-3 c = draw-called _ _ _ _ _ _ (c .before .before .before .before .enum-told3 .given .1) (c .before .before .draw .ensures .0)
+    (c .before .before .draw .ensures .1)
 
 same-length-4 : tie.Need-same-length-4
 same-length-4 c = search needs

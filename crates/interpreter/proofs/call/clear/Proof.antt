@@ -1,4 +1,4 @@
--- `clear` meets its contract. The loop: what was passed is zeros, and what is left is as it was.
+-- `interpreter::call::clear` meets its contract. The loop: what was passed is zeros, and what is left is as it was.
 -- Assumes nothing.
 use mathlib.Core.Path.{_≡_, refl, ap, _∙_}
 use mathlib.Core.List.{List, _++_, append-nil}

@@ -1,4 +1,4 @@
--- `draw` meets its contract: it lends what `clear` made of the buffer.
+-- `interpreter::call::draw` meets its contract: it lends what `clear` made of the buffer.
 -- Assumes nothing.
 use Rattle.hub.specs.Hub.{onHub}
 use borrow.Author.Needs.{needs}

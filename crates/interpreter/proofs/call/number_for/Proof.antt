@@ -1,4 +1,4 @@
--- `number_for` meets its contract.
+-- `interpreter::call::number_for` meets its contract.
 -- Assumes nothing.
 use mathlib.Core.Path.{_∙_}
 use Rattle.interpreter.proofs.Printing.{number-refused, number-accepted}

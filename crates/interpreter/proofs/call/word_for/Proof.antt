@@ -1,4 +1,4 @@
--- `word_for` meets its contract.
+-- `interpreter::call::word_for` meets its contract.
 -- Assumes nothing.
 use mathlib.Core.Path.{_∙_}
 use Rattle.interpreter.proofs.Printing.{word-refused, word-accepted}

@@ -1,4 +1,4 @@
--- `begin_in` meets its contract.
+-- `interpreter::chunk::begin_in` meets its contract.
 -- Assumes nothing.
 use native.Mathlib.Omega.{arith}
 use denote.Ref.{now}
@@ -22,7 +22,8 @@ same-length c = search needs
 
 returns : tie.Need-returns
 returns c =
-    let w = wrote-first (now (c .before .before .before .before .before .before .before .args .out)) answerNames _ _ (omega (arith, c .before .before .before .before .before .before .before .pre)) (c .before .before .before .put-bytes .ensures) in
+    let w = wrote-first (now (c .before .before .before .before .before .before .before .args .out)) answerNames _ _
+    (omega (arith, c .before .before .before .before .before .before .before .pre)) (c .before .before .before .put-bytes .ensures) in
     (rw (c .first .ensures, w .0), w .1)
 
 pub begin-in-spec : {M : Type 1} → statement M

@@ -1,4 +1,4 @@
--- `fill_in` meets its contract. The loop: filling what is left goes on from what is in the buffer.
+-- `interpreter::chunk::fill_in` meets its contract. The loop: filling what is left goes on from what is in the buffer.
 -- Assumes nothing.
 use Prim.Native.Nat.{_-_}
 use native.Mathlib.Omega.{arith}
@@ -27,10 +27,20 @@ advance-requires : tie.Need-advance-requires Inv-loop μ-loop
 advance-requires c κs = (c .before .before .before .before .loop .inv .buffer, c .before .before .before .loop-test .taken)
 
 loop-less : tie.Need-loop-less Inv-loop μ-loop
-loop-less c = omega (arith, c .before .before .before .before .before .advance .ensures .ahead, c .before .before .before .before .before .before .before .before .before .loop-test .taken)
+loop-less c = omega (
+  arith,
+  c .before .before .before .before .before .advance .ensures .ahead,
+  c .before .before .before .before .before .before .before .before .before .loop-test .taken,
+)
 
 loop-again : tie.Need-loop-again Inv-loop μ-loop
-loop-again c = filling-next _ _ _ _ _ _ _ _ _ _ (c .before .before .before .before .before .before .before .before .before .before .loop .inv) _ _ _ (omega (arith, c .before .before .before .before .before .before .before .before .if1 .left, c .before .before .before .before .before .before .before .before .before .before .loop .inv .room)) (c .before .before .before .before .before .advance .ensures)
+loop-again c = filling-next _ _ _ _ _ _ _ _ _ _ (c .before .before .before .before .before .before .before .before .before .before .loop .inv) _ _ _
+    (omega (
+      arith,
+      c .before .before .before .before .before .before .before .before .if1 .left,
+      c .before .before .before .before .before .before .before .before .before .before .loop .inv .room,
+    ))
+    (c .before .before .before .before .before .advance .ensures)
 
 same-length : tie.Need-same-length Inv-loop μ-loop
 same-length c = omega (arith, c .before .loop .inv .buffer, c .before .before .before .before .before .before .pre .0)
@@ -48,7 +58,8 @@ same-length-4 : tie.Need-same-length-4 Inv-loop μ-loop
 same-length-4 c = omega (arith, c .before .before .loop .inv .room, c .before .before .before .before .before .before .before .pre .1)
 
 returns-2 : tie.Need-returns-2 Inv-loop μ-loop
-returns-2 c = filling-full _ _ _ _ _ _ _ _ _ _ (c .before .before .loop .inv) (c .before .loop-test .taken) (omega (arith, c .if1 .taken, c .before .before .loop .inv .room))
+returns-2 c = filling-full _ _ _ _ _ _ _ _ _ _ (c .before .before .loop .inv) (c .before .loop-test .taken)
+    (omega (arith, c .if1 .taken, c .before .before .loop .inv .room))
 
 pub fill-in-spec : {M : Type 1} → statement M
 fill-in-spec =

@@ -1,4 +1,4 @@
--- `finish` meets its contract.
+-- `interpreter::chunk::finish` meets its contract.
 -- Assumes nothing.
 use mathlib.Core.Path.{sym, _∙_}
 use Rattle.interpreter.proofs.Ending.{finish-complete, finish-supplied}
@@ -21,7 +21,8 @@ fill-requires c κs = search needs
 returns-2 : tie.Need-returns-2
 returns-2 c =
     let e = c .before .fill .ensures in
-    finish-supplied _ _ _ _ _ _ (sym (c .before .before .before .before .before .before .complete .ensures) ∙ c .before .before .before .before .before .if1 .left) (e .0) (e .1 .0) (e .1 .1)
+    finish-supplied _ _ _ _ _ _ (sym (c .before .before .before .before .before .before .complete .ensures)
+    ∙ c .before .before .before .before .before .if1 .left) (e .0) (e .1 .0) (e .1 .1)
 
 pub finish-spec : {M : Type 1} → statement M
 finish-spec =

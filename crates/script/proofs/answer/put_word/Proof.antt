@@ -1,3 +1,5 @@
+-- `script::answer::put_word` meets its contract.
+-- Assumes nothing.
 use borrow.Author.Needs.{needs}
 use Rattle.script.proofs.answer.put_word.Statement.{statement}
 use Rattle.script.proofs.answer.put_word.Tie as tie

@@ -1,3 +1,5 @@
+-- `script::answer::write_answer` meets its contract.
+-- Assumes nothing.
 use borrow.Author.Needs.{needs}
 use Rattle.script.specs.Answer.{answerLine}
 use Rattle.script.proofs.Texts.{wrote-more}

@@ -1,4 +1,5 @@
--- The invariant: what is left of the text, decoded, goes behind the bytes that are stored.
+-- `script::hex::decode` meets its contract. The loop's invariant: what is left of the text, decoded, goes behind the bytes that are stored.
+-- Assumes nothing.
 use mathlib.Core.Path.{_≡_, refl}
 use Prim.Native.Nat.{_≤_, _-_, _*_, _/_}
 use native.Mathlib.Omega.{arith}
@@ -24,10 +25,12 @@ shared-slice-read-nibble : tie.Need-shared-slice-read-nibble Inv-loop μ-loop
 shared-slice-read-nibble c = omega arith
 
 nibble-requires : tie.Need-nibble-requires Inv-loop μ-loop
-nibble-requires c κs = let l = c .before .before .loop in high-digit-at (now (c .before .before .before .before .before .args .s)) (2 * l .i) (omega arith) (l .inv .3 .pairs)
+nibble-requires c κs = let l = c .before .before .loop in high-digit-at (now (c .before .before .before .before .before .args .s)) (2 * l .i) (omega arith)
+    (l .inv .3 .pairs)
 
 mul-buffer : tie.Need-mul-buffer Inv-loop μ-loop
-mul-buffer c = let l = c .before .before .before .loop in omega (arith, c .nibble .ensures, high-digit-at (now (c .before .before .before .before .before .before .args .s)) (2 * l .i) (omega arith) (l .inv .3 .pairs))
+mul-buffer c = let l = c .before .before .before .loop in omega
+    (arith, c .nibble .ensures, high-digit-at (now (c .before .before .before .before .before .before .args .s)) (2 * l .i) (omega arith) (l .inv .3 .pairs))
 
 mul-nibble-2 : tie.Need-mul-nibble-2 Inv-loop μ-loop
 mul-nibble-2 c = omega arith
@@ -39,7 +42,8 @@ shared-slice-read-nibble-2 : tie.Need-shared-slice-read-nibble-2 Inv-loop μ-loo
 shared-slice-read-nibble-2 c = omega arith
 
 nibble-requires-2 : tie.Need-nibble-requires-2 Inv-loop μ-loop
-nibble-requires-2 c κs = let l = c .before .before .before .before .loop in low-digit-at (now (c .before .before .before .before .before .before .before .args .s)) (2 * l .i) (omega arith) (l .inv .3 .pairs)
+nibble-requires-2 c κs = let l = c .before .before .before .before .loop in low-digit-at
+    (now (c .before .before .before .before .before .before .before .args .s)) (2 * l .i) (omega arith) (l .inv .3 .pairs)
 
 add-buffer : tie.Need-add-buffer Inv-loop μ-loop
 add-buffer c =

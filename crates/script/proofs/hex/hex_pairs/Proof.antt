@@ -1,4 +1,5 @@
--- The invariant: the answer so far, and that what is left are digits, is the whole answer.
+-- `script::hex::hex_pairs` meets its contract. The loop's invariant: the answer so far, and that what is left are digits, is the whole answer.
+-- Assumes nothing.
 use mathlib.Core.Path.{_≡_, sym, ap, _∙_}
 use mathlib.Core.Logic.{⊎-elim}
 use mathlib.Core.Bool.{Bool, _&&_}
@@ -41,8 +42,10 @@ loop-again c =
     let digit = c .before .is-digit in (
       omega arith,
       ⊎-elim
-          (λ w. ap (λ (t : Bool). t && allHex (drop (l .i + 1) s)) (w .1) ∙ digit-bad s (l .i) (l .all) (omega arith) (sym (digit .ensures) ∙ not-true (digit .result) (w .0 .taken)))
-          (λ w. ap (λ (t : Bool). t && allHex (drop (l .i + 1) s)) (w .1) ∙ digit-good s (l .i) (l .all) (omega arith) (sym (digit .ensures) ∙ not-false (digit .result) (w .0 .left)))
+          (λ w. ap (λ (t : Bool). t && allHex (drop (l .i + 1) s)) (w .1)
+          ∙ digit-bad s (l .i) (l .all) (omega arith) (sym (digit .ensures) ∙ not-true (digit .result) (w .0 .taken)))
+          (λ w. ap (λ (t : Bool). t && allHex (drop (l .i + 1) s)) (w .1)
+          ∙ digit-good s (l .i) (l .all) (omega arith) (sym (digit .ensures) ∙ not-false (digit .result) (w .0 .left)))
           (c .if1 .came)
           ∙ l .inv .1,
     )

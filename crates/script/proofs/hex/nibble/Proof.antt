@@ -1,3 +1,5 @@
+-- `script::hex::nibble` meets its contract.
+-- Assumes nothing.
 use mathlib.Core.Path.{sym}
 use borrow.Author.Needs.{needs}
 use Rattle.script.proofs.HexDigits.{nibble-digit, nibble-letter, digit-least, letter-range}

@@ -1,4 +1,5 @@
--- The invariant: the first i bytes are written.
+-- `script::hex::put_hex` meets its contract. The loop's invariant: the first i bytes are written.
+-- Assumes nothing.
 use Prim.Native.Nat.{_≤_, _-_}
 use native.Mathlib.Omega.{arith}
 use lib.ListN.{length, take}
@@ -23,19 +24,23 @@ place-in-requires c κs = search needs
 
 loop-holds : tie.Need-loop-holds Inv-loop μ-loop
 unfolding hexOf
-loop-holds c = (omega arith, wrote-none (now (c .before .before .before .before .args .out)) (c .before .before .before .before .args .at) (c .place-in .result) (c .place-in .ensures))
+loop-holds c = (
+  omega arith,
+  wrote-none (now (c .before .before .before .before .args .out)) (c .before .before .before .before .args .at) (c .place-in .result)
+      (c .place-in .ensures),
+)
 
 shared-slice-read-b : tie.Need-shared-slice-read-b Inv-loop μ-loop
 shared-slice-read-b c = omega arith
 
-glyph-requires : tie.Need-glyph-requires Inv-loop μ-loop
-glyph-requires c κs = omega (arith, c .before .shared-slice-known2 .given (c .before .before .before .loop .i))
+digit-of-requires : tie.Need-digit-of-requires Inv-loop μ-loop
+digit-of-requires c κs = omega (arith, c .before .shared-slice-known2 .given (c .before .before .before .loop .i))
 
 put-byte-requires : tie.Need-put-byte-requires Inv-loop μ-loop
 put-byte-requires c κs = search needs
 
-glyph-requires-2 : tie.Need-glyph-requires-2 Inv-loop μ-loop
-glyph-requires-2 c κs = omega arith
+digit-of-requires-2 : tie.Need-digit-of-requires-2 Inv-loop μ-loop
+digit-of-requires-2 c κs = omega arith
 
 put-byte-requires-2 : tie.Need-put-byte-requires-2 Inv-loop μ-loop
 put-byte-requires-2 c κs = search needs
@@ -53,8 +58,9 @@ loop-again c =
       omega arith,
       rw (hex-next s (l .i) (omega arith))
           (wrote-more
-          (wrote-more (l .inv .1) (rw (c .before .before .before .before .before .before .before .before .glyph .ensures) at (c .before .before .before .before .before .before .before .put-byte .ensures)))
-          (rw (c .before .before .before .glyph2 .ensures) at (c .before .before .put-byte2 .ensures))),
+          (wrote-more (l .inv .1) (rw (c .before .before .before .before .before .before .before .before .digit-of .ensures) at
+          (c .before .before .before .before .before .before .before .put-byte .ensures)))
+          (rw (c .before .before .before .digit-of2 .ensures) at (c .before .before .put-byte2 .ensures))),
     )
 
 same-length : tie.Need-same-length Inv-loop μ-loop
@@ -75,9 +81,9 @@ put-hex-spec =
     place-in-requires
     loop-holds
     shared-slice-read-b
-    glyph-requires
+    digit-of-requires
     put-byte-requires
-    glyph-requires-2
+    digit-of-requires-2
     put-byte-requires-2
     add-i
     loop-less

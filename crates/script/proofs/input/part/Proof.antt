@@ -1,3 +1,5 @@
+-- `script::input::part` meets its contract.
+-- Assumes nothing.
 use borrow.Author.Needs.{needs}
 use denote.Ref.{now}
 use Rattle.script.proofs.Texts.{cut-none, cut-all, cut-some}

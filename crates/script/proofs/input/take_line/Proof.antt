@@ -1,3 +1,5 @@
+-- `script::input::take_line` meets its contract.
+-- Assumes nothing.
 use mathlib.Core.Path.{ap, _∙_}
 use lib.ListN.{length}
 use lib.Seq.{sets}
@@ -25,7 +27,8 @@ same-length c = search needs
 returns : tie.Need-returns
 returns c =
     let a = c .before .before .before .before .before .before .before .before .before .before .args in
-    let taken = piece-taken (now (a .chunk)) (a .at) _ _ _ _ (c .before .before .before .before .before .before .room .ensures) (c .before .before .before .before .before .part .ensures) (c .before .before .before .before .before2 .ensures) in
+    let taken = piece-taken (now (a .chunk)) (a .at) _ _ _ _ (c .before .before .before .before .before .before .room .ensures)
+    (c .before .before .before .before .before .part .ensures) (c .before .before .before .before .before2 .ensures) in
     (ap length taken, c .before .before .put-bytes .ensures .bytes ∙ ap (sets (now (a .line)) (a .held)) taken)
 
 pub take-line-spec : {M : Type 1} → statement M

@@ -1,3 +1,5 @@
+-- `script::line::bytes_field` meets its contract.
+-- Assumes nothing.
 use mathlib.Core.Path.{refl, sym, ap, _∙_}
 use native.Mathlib.Omega.{arith}
 use borrow.Author.Needs.{needs}
@@ -32,7 +34,10 @@ unfolding bytesOf
 returns-2 c =
     let a = c .before .before .before .before .before .before .before .before .before .before .args in
     let decoded = c .before .before .decode .ensures in
-    rw (sym (c .before .before .before .before .before .before .before .is-dash .ensures) ∙ c .before .before .before .before .before .before .if1 .left, sym (c .before .before .before .before .before .is-hex .ensures) ∙ c .before .before .before .before .if2 .taken)
+    rw (
+      sym (c .before .before .before .before .before .before .before .is-dash .ensures) ∙ c .before .before .before .before .before .before .if1 .left,
+      sym (c .before .before .before .before .before .is-hex .ensures) ∙ c .before .before .before .before .if2 .taken,
+    )
     (ap (Call (a .verb) (a .number)) (decoded .1), decoded .0)
 
 returns-3 : tie.Need-returns-3

@@ -1,3 +1,5 @@
+-- `script::line::count_field` meets its contract.
+-- Assumes nothing.
 use mathlib.Core.Path.{sym, ap, _∙_}
 use native.Mathlib.Omega.{arith}
 use borrow.Author.Needs.{needs}
@@ -11,7 +13,9 @@ use Rattle.script.proofs.line.count_field.Tie as tie
 
 -- the four digits were read as two bytes
 read : (c : tie.After-two2) → Counted (now (c .before .before .before .before .before .before .before .args .s)) (c .before .decode .last .1 .0)
-read c = counted _ _ 0 0 (c .before .before .before .before .before .if1 .left) (sym (c .before .before .before .before .hex-pairs .ensures) ∙ not-false (c .before .before .before .before .hex-pairs .result) (c .before .before .before .if2 .left)) (c .before .decode .ensures .0)
+read c = counted _ _ 0 0 (c .before .before .before .before .before .if1 .left)
+    (sym (c .before .before .before .before .hex-pairs .ensures)
+    ∙ not-false (c .before .before .before .before .hex-pairs .result) (c .before .before .before .if2 .left)) (c .before .decode .ensures .0)
 
 returns : tie.Need-returns
 unfolding countOf isCount
@@ -28,7 +32,10 @@ slice-aggregate-decode : tie.Need-slice-aggregate-decode
 slice-aggregate-decode c = search needs
 
 decode-requires : tie.Need-decode-requires
-decode-requires c κs = (sym (c .before .before .hex-pairs .ensures) ∙ not-false (c .before .before .hex-pairs .result) (c .before .if2 .left), omega (arith, c .before .before .before .if1 .left))
+decode-requires c κs = (
+  sym (c .before .before .hex-pairs .ensures) ∙ not-false (c .before .before .hex-pairs .result) (c .before .if2 .left),
+  omega (arith, c .before .before .before .if1 .left),
+)
 
 array-read-size : tie.Need-array-read-size
 array-read-size c = search needs
@@ -52,15 +59,21 @@ returns-3 : tie.Need-returns-3
 unfolding countOf isCount
 returns-3 c =
     let s = now (c .before .before .before .before .before .before .before .before .args .s) in
-    let pairs = sym (c .before .before .before .before .before .hex-pairs .ensures) ∙ not-false (c .before .before .before .before .before .hex-pairs .result) (c .before .before .before .before .if2 .left) in
+    let pairs = sym (c .before .before .before .before .before .hex-pairs .ensures)
+    ∙ not-false (c .before .before .before .before .before .hex-pairs .result) (c .before .before .before .before .if2 .left) in
     rw (eq-eqb _ 4 (c .before .before .before .before .before .before .if1 .left), pairs, lt-leb (countValue s) mostCount (omega (arith, read (c .before) .value)))
 
 returns-4 : tie.Need-returns-4
 unfolding countOf isCount
 returns-4 c =
     let a = c .before .before .before .before .before .before .before .before .args in
-    let pairs = sym (c .before .before .before .before .before .hex-pairs .ensures) ∙ not-false (c .before .before .before .before .before .hex-pairs .result) (c .before .before .before .before .if2 .left) in
-    rw (eq-eqb _ 4 (c .before .before .before .before .before .before .if1 .left), pairs, le-leb (countValue (now (a .s))) mostCount (omega (arith, read (c .before) .value)))
+    let pairs = sym (c .before .before .before .before .before .hex-pairs .ensures)
+    ∙ not-false (c .before .before .before .before .before .hex-pairs .result) (c .before .before .before .before .if2 .left) in
+    rw (
+      eq-eqb _ 4 (c .before .before .before .before .before .before .if1 .left),
+      pairs,
+      le-leb (countValue (now (a .s))) mostCount (omega (arith, read (c .before) .value)),
+    )
     (ap (Call (a .verb) (a .number)) (sym (read (c .before) .value)))
 
 pub count-field-spec : {M : Type 1} → statement M

@@ -1,3 +1,5 @@
+-- `script::line::empty_field` meets its contract.
+-- Assumes nothing.
 use mathlib.Core.Path.{sym, _∙_}
 use borrow.Author.Needs.{needs}
 use Rattle.script.specs.Line.{noBytesOf}

@@ -1,3 +1,5 @@
+-- `script::line::is_dash` meets its contract.
+-- Assumes nothing.
 use borrow.Author.Needs.{needs}
 use Rattle.script.specs.Line.{isDash}
 use Rattle.script.proofs.line.is_dash.Statement.{statement}

@@ -1,3 +1,5 @@
+-- `script::line::is_hex` meets its contract.
+-- Assumes nothing.
 use borrow.Author.Needs.{needs}
 use borrow.Author.Tests.{le-leb, lt-leb}
 use Rattle.script.specs.Line.{isHex}

@@ -1,3 +1,5 @@
+-- `script::line::verb_of` meets its contract.
+-- Assumes nothing.
 use mathlib.Core.Path.{sym, _∙_}
 use borrow.Author.Needs.{needs}
 use Rattle.script.specs.Line.{verbOf}
@@ -54,7 +56,8 @@ returns-4 : tie.Need-returns-4
 unfolding verbOf
 returns-4 c =
     rw (
-      sym (c .before .before .before .before .before .before .before .before .before .before .same .ensures) ∙ c .before .before .before .before .before .before .before .before .before .if1 .left,
+      sym (c .before .before .before .before .before .before .before .before .before .before .same .ensures)
+          ∙ c .before .before .before .before .before .before .before .before .before .if1 .left,
       sym (c .before .before .before .before .before .before .before .same2 .ensures) ∙ c .before .before .before .before .before .before .if2 .left,
       sym (c .before .before .before .before .same3 .ensures) ∙ c .before .before .before .if3 .left,
       sym (c .before .same4 .ensures) ∙ c .if4 .taken,
@@ -70,8 +73,10 @@ returns-5 : tie.Need-returns-5
 unfolding verbOf
 returns-5 c =
     rw (
-      sym (c .before .before .before .before .before .before .before .before .before .before .before .before .before .same .ensures) ∙ c .before .before .before .before .before .before .before .before .before .before .before .before .if1 .left,
-      sym (c .before .before .before .before .before .before .before .before .before .before .same2 .ensures) ∙ c .before .before .before .before .before .before .before .before .before .if2 .left,
+      sym (c .before .before .before .before .before .before .before .before .before .before .before .before .before .same .ensures)
+          ∙ c .before .before .before .before .before .before .before .before .before .before .before .before .if1 .left,
+      sym (c .before .before .before .before .before .before .before .before .before .before .same2 .ensures)
+          ∙ c .before .before .before .before .before .before .before .before .before .if2 .left,
       sym (c .before .before .before .before .before .before .before .same3 .ensures) ∙ c .before .before .before .before .before .before .if3 .left,
       sym (c .before .before .before .before .same4 .ensures) ∙ c .before .before .before .if4 .left,
       sym (c .before .same5 .ensures) ∙ c .if5 .taken,
@@ -87,9 +92,12 @@ returns-6 : tie.Need-returns-6
 unfolding verbOf
 returns-6 c =
     rw (
-      sym (c .before .before .before .before .before .before .before .before .before .before .before .before .before .before .before .before .same .ensures) ∙ c .before .before .before .before .before .before .before .before .before .before .before .before .before .before .before .if1 .left,
-      sym (c .before .before .before .before .before .before .before .before .before .before .before .before .before .same2 .ensures) ∙ c .before .before .before .before .before .before .before .before .before .before .before .before .if2 .left,
-      sym (c .before .before .before .before .before .before .before .before .before .before .same3 .ensures) ∙ c .before .before .before .before .before .before .before .before .before .if3 .left,
+      sym (c .before .before .before .before .before .before .before .before .before .before .before .before .before .before .before .before .same .ensures)
+          ∙ c .before .before .before .before .before .before .before .before .before .before .before .before .before .before .before .if1 .left,
+      sym (c .before .before .before .before .before .before .before .before .before .before .before .before .before .same2 .ensures)
+          ∙ c .before .before .before .before .before .before .before .before .before .before .before .before .if2 .left,
+      sym (c .before .before .before .before .before .before .before .before .before .before .same3 .ensures)
+          ∙ c .before .before .before .before .before .before .before .before .before .if3 .left,
       sym (c .before .before .before .before .before .before .before .same4 .ensures) ∙ c .before .before .before .before .before .before .if4 .left,
       sym (c .before .before .before .before .same5 .ensures) ∙ c .before .before .before .if5 .left,
       sym (c .before .same6 .ensures) ∙ c .if6 .taken,
@@ -99,9 +107,12 @@ returns-7 : tie.Need-returns-7
 unfolding verbOf
 returns-7 c =
     rw (
-      sym (c .before .before .before .before .before .before .before .before .before .before .before .before .before .before .before .before .same .ensures) ∙ c .before .before .before .before .before .before .before .before .before .before .before .before .before .before .before .if1 .left,
-      sym (c .before .before .before .before .before .before .before .before .before .before .before .before .before .same2 .ensures) ∙ c .before .before .before .before .before .before .before .before .before .before .before .before .if2 .left,
-      sym (c .before .before .before .before .before .before .before .before .before .before .same3 .ensures) ∙ c .before .before .before .before .before .before .before .before .before .if3 .left,
+      sym (c .before .before .before .before .before .before .before .before .before .before .before .before .before .before .before .before .same .ensures)
+          ∙ c .before .before .before .before .before .before .before .before .before .before .before .before .before .before .before .if1 .left,
+      sym (c .before .before .before .before .before .before .before .before .before .before .before .before .before .same2 .ensures)
+          ∙ c .before .before .before .before .before .before .before .before .before .before .before .before .if2 .left,
+      sym (c .before .before .before .before .before .before .before .before .before .before .same3 .ensures)
+          ∙ c .before .before .before .before .before .before .before .before .before .if3 .left,
       sym (c .before .before .before .before .before .before .before .same4 .ensures) ∙ c .before .before .before .before .before .before .if4 .left,
       sym (c .before .before .before .before .same5 .ensures) ∙ c .before .before .before .if5 .left,
       sym (c .before .same6 .ensures) ∙ c .if6 .left,

@@ -1,4 +1,5 @@
--- The invariant: the digits left, behind the value so far, spell the number.
+-- `script::number::number_of` meets its contract. The loop's invariant: the digits left, behind the value so far, spell the number.
+-- Assumes nothing.
 use mathlib.Core.Path.{_≡_, refl, sym, ap, _∙_}
 use mathlib.Core.Bool.{true}
 use Prim.Native.Nat.{_≤_, _-_, _+_, _*_}
@@ -13,7 +14,8 @@ use Rattle.script.proofs.number.number_of.Statement.{statement}
 use Rattle.script.proofs.number.number_of.Tie as tie
 
 abbrev Inv-loop : tie.InvT-loop
-Inv-loop s value₀ i₀ value i = (i ≤ length s) × (value ≤ mostNumber) × (plainStart s ≡ true) × (allDigits (drop i s) ≡ allDigits s) × (valueFrom value (drop i s) ≡ valueFrom 0 s)
+Inv-loop s value₀ i₀ value i = (i ≤ length s) × (value ≤ mostNumber) × (plainStart s ≡ true) × (allDigits (drop i s) ≡ allDigits s)
+    × (valueFrom value (drop i s) ≡ valueFrom 0 s)
 
 abbrev μ-loop : tie.MeasureT-loop
 μ-loop s value₀ i₀ value i = length s - i

@@ -1,10 +1,13 @@
+-- `script::text::after` meets its contract.
+-- Assumes nothing.
 use mathlib.Core.Path.{sym, _∙_}
 use Prim.Native.Nat.{_+_}
 use native.Mathlib.Omega.{arith}
 use lib.ListN.{drop-of-length-le}
 use borrow.Author.Needs.{needs}
 use denote.Ref.{now}
-use Rattle.script.proofs.Texts.{part-to-end, after-found, after-missing, length-before}
+use Rattle.checks.proofs.Buffers.{part-to-end}
+use Rattle.script.proofs.Texts.{after-found, after-missing, length-before}
 use Rattle.script.proofs.text.after.Statement.{statement}
 use Rattle.script.proofs.text.after.Tie as tie
 
@@ -42,7 +45,8 @@ returns-2 : tie.Need-returns-2
 returns-2 c =
     let s = c .before .before .before .before .args in
     let i = c .before .before .find .result in
-    part-to-end (now (s .s)) i ∙ drop-of-length-le (now (s .s)) {i = i} (omega arith) ∙ sym (after-missing (s .b) (now (s .s)) (omega (arith, c .before .before .find .ensures)))
+    part-to-end (now (s .s)) i ∙ drop-of-length-le (now (s .s)) {i = i} (omega arith)
+    ∙ sym (after-missing (s .b) (now (s .s)) (omega (arith, c .before .before .find .ensures)))
 
 pub after-spec : {M : Type 1} → statement M
 after-spec =

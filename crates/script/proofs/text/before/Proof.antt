@@ -1,3 +1,5 @@
+-- `script::text::before` meets its contract.
+-- Assumes nothing.
 use mathlib.Core.Path.{sym}
 use native.Mathlib.Omega.{arith}
 use lib.Seq.{length-take-le}
@@ -11,7 +13,11 @@ find-requires : tie.Need-find-requires
 find-requires c κs = search needs
 
 slice-aggregate-result : tie.Need-slice-aggregate-result
-slice-aggregate-result c = sym (length-take-le _ _ (omega (arith, c .before .find .ensures, length-before (c .before .before .before .args .b) (now (c .before .before .before .args .s)))))
+slice-aggregate-result c = sym (length-take-le _ _ (omega (
+  arith,
+  c .before .find .ensures,
+  length-before (c .before .before .before .args .b) (now (c .before .before .before .args .s)),
+)))
 
 returns : tie.Need-returns
 returns c = rw (c .before .find .ensures) (take-before (c .before .before .before .args .b) (now (c .before .before .before .args .s)))

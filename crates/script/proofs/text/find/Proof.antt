@@ -1,4 +1,5 @@
--- The invariant: the place is as many bytes further than it is in what is left.
+-- `script::text::find` meets its contract. The loop's invariant: the place is as many bytes further than it is in what is left.
+-- Assumes nothing.
 use mathlib.Core.Path.{_≡_, ap}
 use Prim.Native.Nat.{_≤_, _-_, _+_}
 use native.Mathlib.Omega.{arith}

@@ -1,3 +1,5 @@
+-- `script::text::put_byte` meets its contract.
+-- Assumes nothing.
 use borrow.Author.Needs.{needs}
 use Rattle.script.proofs.Texts.{wrote-past}
 use Rattle.script.proofs.text.put_byte.Statement.{statement}

@@ -1,4 +1,5 @@
--- The invariant: the first i bytes are stored.
+-- `script::text::put_bytes` meets its contract. The loop's invariant: the first i bytes are stored.
+-- Assumes nothing.
 use mathlib.Core.Path.{_≡_, refl, ap, _∙_}
 use mathlib.Core.List.{List}
 use Prim.Native.Nat.{ℕ, _+_, _-_, _≤_, min}

@@ -1,3 +1,5 @@
+-- `hub::records::Worked::refused` meets its contract.
+-- Assumes nothing.
 use mathlib.Core.Path.{ap}
 use Rattle.calls.specs.declared.Answer.{Answer}
 use borrow.Author.Needs.{needs}

@@ -71,8 +71,14 @@ fill-requires c κs =
     let now = c .before .before .before .loop in
     let a = c .before .before .before .before .before .before .before .args in
     let part : now .done + c .before .shorter .result - now .done ≡ c .before .shorter .result = omega arith in
-    let rate : c .before .before .before .before .before .feed-rate .result ≡ row (now .current .mode) .feedRate = c .before .before .before .before .before .feed-rate .ensures ∙ ap (λ (m : Mode). row m .feedRate) (sym (now .inv .4)) in
-    rw (part, ← rate) (omega (arith, c .before .shorter .ensures, length-take (c .before .shorter .result) (drop (now .done) (a .bytes .now)), length-drop (now .done) (a .bytes .now)))
+    let rate : c .before .before .before .before .before .feed-rate .result ≡ row (now .current .mode) .feedRate =
+    c .before .before .before .before .before .feed-rate .ensures ∙ ap (λ (m : Mode). row m .feedRate) (sym (now .inv .4)) in
+    rw (part, ← rate) (omega (
+      arith,
+      c .before .shorter .ensures,
+      length-take (c .before .shorter .result) (drop (now .done) (a .bytes .now)),
+      length-drop (now .done) (a .bytes .now),
+    ))
 
 loop-less : tie.Need-loop-less Inv-loop μ-loop
 loop-less c = omega (arith, c .before .before .shorter .ensures)
@@ -89,13 +95,15 @@ loop-again c =
     let part : now .done + m - now .done ≡ m = omega arith in
     let next : (a .self .fed + now .done) % R ≡ now .place = ap (λ (x : ℕ). (a .self .fed + now .done) % x) (sym rate) ∙ now .inv .2 (omega arith) in
     let result : c .fill .result ≡ filled (row (a .self .mode)) (now .place) (take m (drop (now .done) (a .bytes .now))) (now .current) =
-    c .fill .ensures ∙ ap₂ (λ (x : ℕ) (mode : Mode). filled (row mode) (now .place) (take x (drop (now .done) (a .bytes .now))) (now .current)) part (now .inv .4) in (
+    c .fill .ensures ∙ ap₂ (λ (x : ℕ) (mode : Mode). filled (row mode) (now .place) (take x (drop (now .done) (a .bytes .now))) (now .current)) part
+    (now .inv .4) in (
       omega arith,
       rw rate pos,
       λ more.
           let full : a .self .fed + (now .done + m) ≡ (a .self .fed + now .done) + (R - (a .self .fed + now .done) % R) = omega (arith, more, least, rate, next) in
           rw (rate, full) (block-end R pos (a .self .fed + now .done)),
-      rw result (feed-next (row (a .self .mode)) (a .bytes .now) (a .self .fed) (now .done) m (now .place) (now .current) next (omega arith) (omega arith) (omega arith) ∙ now .inv .3),
+      rw result (feed-next (row (a .self .mode)) (a .bytes .now) (a .self .fed) (now .done) m (now .place) (now .current) next (omega arith) (omega arith)
+          (omega arith) ∙ now .inv .3),
       ap (λ (r : Record). r .mode) result ∙ filled-mode (row (a .self .mode)) (now .place) _ (now .current) ∙ now .inv .4,
     )
 
@@ -106,7 +114,8 @@ returns : tie.Need-returns Inv-loop μ-loop
 unfolding absorbed feedBytes sum64
 returns c =
     let last = c .before .before .loop in
-    let fed : c .wrapping-add-u64 .result ≡ (c .before .before .before .before .before .before .args .self .fed + length (c .before .before .before .before .before .before .args .bytes .now)) % 2 ^ 64 = c .wrapping-add-u64 .ensures in
+    let fed : c .wrapping-add-u64 .result ≡ (c .before .before .before .before .before .before .args .self .fed
+    + length (c .before .before .before .before .before .before .args .bytes .now)) % 2 ^ 64 = c .wrapping-add-u64 .ensures in
     ap₂ withFed fed (rw (drop-of-length-le _ (c .before .loop-test .left)) at (last .inv .3))
 
 pub absorb-spec : {M : Type 1} → statement M

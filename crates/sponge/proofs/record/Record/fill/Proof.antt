@@ -32,14 +32,16 @@ returns : tie.Need-returns
 unfolding filled runIf inWords
 returns c =
     let a = c .before .before .before .before .before .before .args in
-    let full : eqb (a .place + length (now (a .bytes))) (row (a .self .mode) .feedRate) ≡ true = eq-eqb (a .place + length (now (a .bytes))) (row (a .self .mode) .feedRate) (omega (arith, c .before .before .feed-rate .ensures)) in
+    let full : eqb (a .place + length (now (a .bytes))) (row (a .self .mode) .feedRate) ≡ true =
+    eq-eqb (a .place + length (now (a .bytes))) (row (a .self .mode) .feedRate) (omega (arith, c .before .before .feed-rate .ensures)) in
     rw (full, c .run .ensures, c .before .before .before .xor-part .ensures)
 
 returns-2 : tie.Need-returns-2
 unfolding filled runIf inWords
 returns-2 c =
     let a = c .before .before .before .before .before .args in
-    let part : eqb (a .place + length (now (a .bytes))) (row (a .self .mode) .feedRate) ≡ false = ne-eqb (a .place + length (now (a .bytes))) (row (a .self .mode) .feedRate) (λ e. omega (arith, c .before .feed-rate .ensures)) in
+    let part : eqb (a .place + length (now (a .bytes))) (row (a .self .mode) .feedRate) ≡ false =
+    ne-eqb (a .place + length (now (a .bytes))) (row (a .self .mode) .feedRate) (λ e. omega (arith, c .before .feed-rate .ensures)) in
     rw (part, c .before .before .xor-part .ensures)
 
 pub fill-spec : {M : Type 1} → statement M

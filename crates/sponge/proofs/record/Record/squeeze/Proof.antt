@@ -96,7 +96,9 @@ loop-less : tie.Need-loop-less Inv-loop μ-loop
 loop-less c =
     let now = c .before .before .before .before .before .before .before .before .loop in
     let rate : 0 < c .before .before .before .before .before .before .before .before .before .before .before .before .before .before .before .before .draw-rate .result = rw (c .before .before .before .before .before .before .before .before .before .before .before .before .before .before .before .before .draw-rate .ensures) (rates (c .before .before .before .before .before .before .before .before .before .before .before .before .before .before .before .before .before .before .args .self .mode) .draws) in
-    less-left _ (now .done) (c .before .before .before .before .before .shorter2 .result) _ _ (c .before .before .before .before .before .shorter2 .ensures) rate (omega arith) (rw (now .inv .long) at (c .before .before .before .before .before .before .before .loop-test .taken))
+    less-left _ (now .done) (c .before .before .before .before .before .shorter2 .result) _ _
+    (c .before .before .before .before .before .shorter2 .ensures) rate (omega arith)
+    (rw (now .inv .long) at (c .before .before .before .before .before .before .before .loop-test .taken))
 
 loop-again : tie.Need-loop-again Inv-loop μ-loop
 loop-again c =
@@ -108,9 +110,16 @@ loop-again c =
     let r = c .before .before .before .before .before .before .before .before .before .before .before .before .before .before .before .before .before .before .args .self in
     let same : now .done + k - now .done ≡ k = omega arith in
     let part : length (take (now .done + k - now .done) (drop (now .done) (now .out))) ≡ k =
-    length-take-le _ (drop (now .done) (now .out)) (omega (arith, same, length-drop (now .done) (now .out), c .before .before .before .before .before .shorter2 .ensures)) ∙ same in
+    length-take-le _ (drop (now .done) (now .out)) (omega (
+      arith,
+      same,
+      length-drop (now .done) (now .out),
+      c .before .before .before .before .before .shorter2 .ensures,
+    )) ∙ same in
     let next = squeeze-block (row (r .mode)) (rates (r .mode) .draws) r _ (now .out) _ (now .current) (now .done) k (now .done + k - now .done) (now .inv)
-    (omega (arith, now .inv .long)) (c .before .before .before .before .before .shorter2 .ensures ∙ ap₂ (λ (x y : ℕ). min x (y - now .done)) rate (now .inv .long)) same (copy .copy-bytes2 .ensures ∙ ap₂ (λ (n : ℕ) (x : Record). bytesFrom 0 n (x .words)) part run) in
+    (omega (arith, now .inv .long)) (c .before .before .before .before .before .shorter2 .ensures
+    ∙ ap₂ (λ (x y : ℕ). min x (y - now .done)) rate (now .inv .long)) same
+    (copy .copy-bytes2 .ensures ∙ ap₂ (λ (n : ℕ) (x : Record). bytesFrom 0 n (x .words)) part run) in
     rw run next
 
 wrapping-add-u64-requires : tie.Need-wrapping-add-u64-requires Inv-loop μ-loop
@@ -123,7 +132,8 @@ same-length c =
     let within : k ≤ length (a .out .now) = omega (arith, c .before .before .before .before .before .before .before .before .shorter .ensures) in
     let part : length (take k (a .out .now)) ≡ k = length-take-le k (a .out .now) within in
     c .before .before .loop .inv .long
-    ∙ front-written (a .out .now) _ k _ (a .self .words) within (c .before .before .before .before .before .copy-bytes .ensures ∙ ap (λ (n : ℕ). bytesFrom (c .before .before .before .before .before .before .before .before .before .used-of-block .result) n (a .self .words)) part)
+    ∙ front-written (a .out .now) _ k _ (a .self .words) within (c .before .before .before .before .before .copy-bytes .ensures
+    ∙ ap (λ (n : ℕ). bytesFrom (c .before .before .before .before .before .before .before .before .before .used-of-block .result) n (a .self .words)) part)
 
 returns : tie.Need-returns Inv-loop μ-loop
 unfolding squeezed nextBytes sum64
@@ -133,7 +143,8 @@ returns c =
     let w = row (a .self .mode) in
     let count : _ ≡ length (a .out .now) = sym (last .inv .long) ∙ same-length c in
     let all = squeeze-all w (rates (a .self .mode) .draws) (a .self) _ (last .out) (last .current) (last .done) (last .inv) (omega (arith, last .inv .long)) in (
-      ap₂ withDrawn (c .wrapping-add-u64 .ensures ∙ ap (λ (n : ℕ). (a .self .drawn + n) % 2 ^ 64) (same-length c)) (all .0 ∙ ap (λ (n : ℕ). afterDrawing w (a .self .drawn) n (a .self)) count),
+      ap₂ withDrawn (c .wrapping-add-u64 .ensures ∙ ap (λ (n : ℕ). (a .self .drawn + n) % 2 ^ 64) (same-length c))
+          (all .0 ∙ ap (λ (n : ℕ). afterDrawing w (a .self .drawn) n (a .self)) count),
       all .1 ∙ ap (λ (n : ℕ). drawnBytes w (a .self .drawn) n (a .self)) count,
     )
 

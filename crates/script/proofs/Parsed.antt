@@ -1,4 +1,4 @@
--- What `parse_line` tells: nothing is lost, and sizes are small.
+-- What `parse_line` answers: nothing is lost, and sizes are small.
 -- Assumes nothing.
 use mathlib.Core.Path.{_≡_, refl, ap}
 use mathlib.Core.List.{List}
@@ -12,7 +12,7 @@ use Rattle.script.specs.declared.line.Parsed.{Parsed}
 use Rattle.script.specs.declared.line.Parsed.the-variants.{Call}
 use Rattle.script.specs.Number.{Reading, found, malformed}
 use Rattle.script.specs.Line.{mostBytes, Line, Field, bytes, count, SomeBytes, NoBytes, ACount, FieldFits, Valid, parse}
-use Rattle.script.specs.Parsed.{fieldIn, lineWith, lineIn, sizeOf, bytesIn, told, bufferAfter}
+use Rattle.script.specs.Parsed.{fieldIn, lineWith, lineIn, sizeOf, bytesIn, parsedOf, bufferAfter}
 use Rattle.script.proofs.RoundTrip.{read-printed}
 
 -- ---- the answer and the buffer, put together
@@ -45,17 +45,17 @@ module _ (d : List ℕ) (room : length d ≡ mostBytes) where
   line-from : (l : Line) → Valid l → lineWith (l .verb) (l .number) (sizeOf (l .field)) (sets d 0 (bytesIn (l .field))) ≡ l
   line-from l h = ap (λ (f : Field). record { verb = l .verb; number = l .number; field = f }) (field-from (l .verb) (l .number) (l .field) (h .field))
 
-  from-read : (s : List ℕ) (r : Reading Line) → parse s ≡ r → lineIn (told r) (bufferAfter d r) ≡ r
+  from-read : (s : List ℕ) (r : Reading Line) → parse s ≡ r → lineIn (parsedOf r) (bufferAfter d r) ≡ r
   from-read s (found l) e = ap found (line-from l (read-printed s l e .1))
   from-read s malformed e = refl
 
   -- an answer and the buffer stand for the line that was read
-  pub nothing-lost : (s : List ℕ) → lineIn (told (parse s)) (bufferAfter d (parse s)) ≡ parse s
+  pub nothing-lost : (s : List ℕ) → lineIn (parsedOf (parse s)) (bufferAfter d (parse s)) ≡ parse s
   nothing-lost s = from-read s (parse s) refl
 
   -- so what `parse_line` answers, with the buffer that it leaves, stands for the line
-  pub told-line : (s : List ℕ) (p : Parsed) (e : List ℕ) → p ≡ told (parse s) → e ≡ bufferAfter d (parse s) → lineIn p e ≡ parse s
-  told-line s p e answer buffer = rw (answer, buffer) (nothing-lost s)
+  pub parsed-line : (s : List ℕ) (p : Parsed) (e : List ℕ) → p ≡ parsedOf (parse s) → e ≡ bufferAfter d (parse s) → lineIn p e ≡ parse s
+  parsed-line s p e answer buffer = rw (answer, buffer) (nothing-lost s)
 
 -- ---- sizes
 
@@ -81,10 +81,10 @@ field-size Close n f h = none-size f h
 field-size Sum n f h = none-size f (h .0)
 
 -- a call's size is at most 1,024
-pub call-size : (s : List ℕ) (v : Verb) (n k : ℕ) → told (parse s) ≡ Call v n k → k ≤ mostBytes
+pub call-size : (s : List ℕ) (v : Verb) (n k : ℕ) → parsedOf (parse s) ≡ Call v n k → k ≤ mostBytes
 call-size s v n k e = go (parse s) refl e
   where
-    go : (r : Reading Line) → parse s ≡ r → told r ≡ Call v n k → k ≤ mostBytes
+    go : (r : Reading Line) → parse s ≡ r → parsedOf r ≡ Call v n k → k ≤ mostBytes
     go (found l) p q =
         let w : sizeOf (l .field) ≡ k = cc in
         omega (arith, w, field-size (l .verb) (l .number) (l .field) (read-printed s l p .1 .field))

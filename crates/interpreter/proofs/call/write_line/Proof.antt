@@ -1,9 +1,9 @@
--- `tell` meets its contract.
+-- `interpreter::call::write_line` meets its contract.
 -- Assumes nothing.
 use Rattle.interpreter.specs.Script.{answered}
 use borrow.Author.Needs.{needs}
-use Rattle.interpreter.proofs.call.tell.Statement.{statement}
-use Rattle.interpreter.proofs.call.tell.Tie as tie
+use Rattle.interpreter.proofs.call.write_line.Statement.{statement}
+use Rattle.interpreter.proofs.call.write_line.Tie as tie
 
 word-for-requires : tie.Need-word-for-requires
 word-for-requires c κs = search needs
@@ -22,10 +22,14 @@ same-length c = search needs
 
 returns : tie.Need-returns
 unfolding answered
-returns c = rw (c .before .before .before .before .before .word-for .ensures, c .before .before .before .before .number-for .ensures, c .before .before .before .bytes-for .ensures) at (c .before .before .write-answer .ensures)
+returns c = rw (
+  c .before .before .before .before .before .word-for .ensures,
+  c .before .before .before .before .number-for .ensures,
+  c .before .before .before .bytes-for .ensures,
+) at (c .before .before .write-answer .ensures)
 
-pub tell-spec : {M : Type 1} → statement M
-tell-spec =
+pub write-line-spec : {M : Type 1} → statement M
+write-line-spec =
     tie.close
     (tie.spec
     word-for-requires
