@@ -11,7 +11,8 @@ use lib.Seq.{map-set-same, append-snoc}
 use Rattle.calls.specs.Call.{Call, Step, Response, events, final}
 use Rattle.calls.specs.Keyed.{total}
 use Rattle.calls.specs.Law.{upFrom}
-use Rattle.calls.specs.Lists.{accepted, givenBy, tickets}
+use Rattle.calls.specs.Answer.{accepted}
+use Rattle.calls.specs.Lists.{givenBy, tickets}
 use Rattle.calls.specs.Machine.{Entry, Machine, runsOf, newEntry, afterFeed, afterDraw, afterClose, placeOf, entryOf, put, sumMachine, machine}
 use Rattle.calls.proofs.Keyed.{all, all-append, all-yes}
 use Rattle.calls.proofs.Entries.{number, Entered, missing, entered, Sound, entry-is}
@@ -26,7 +27,7 @@ numbers m = map number (m .entries)
 
 -- the tickets that one call gives
 given : Call → Response → List ℕ
-given c r = cond (accepted (record { call = c; response = r })) (givenBy c r) []
+given c r = cond (accepted (r .answer)) (givenBy c r) []
 
 -- a changed entry keeps its number
 put-numbers : (m : Machine) (t : ℕ) (e y : Entry) → OpenTicket m t e → y .number ≡ e .number → numbers (put t y m) ≡ numbers m ++ []

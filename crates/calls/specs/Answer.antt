@@ -2,7 +2,12 @@
 -- Assumes nothing.
 use mathlib.Core.Bool.{Bool, false}
 use Prim.Native.Nat.{ℕ}
+use lib.Dec.{eqb}
 use Rattle.calls.specs.declared.Answer.{Answer}
+
+-- whether an answer is an accepted call's
+abbrev pub accepted : Answer → Bool
+accepted a = eqb (a .refusal) 0
 
 -- a refusal: its number, and nothing else
 abbrev pub refused : ℕ → Answer

@@ -5,12 +5,10 @@ use mathlib.Core.List.{List, [], _∷_, _++_}
 use Prim.Native.Nat.{ℕ}
 use lib.Dec.{eqb}
 use lib.ListN.{take, drop}
+use Rattle.calls.specs.Answer.{accepted}
 use Rattle.calls.specs.Call.{Call, Open, Feed, Draw, Check, Close, Sum, Response, Event}
 
 -- ---- one call of the list
-
-abbrev pub accepted : Event → Bool
-accepted e = eqb (e .response .answer .refusal) 0
 
 -- whether a call is on ticket t: an open is on the ticket that it gave, a sum on none
 abbrev pub concerns : ℕ → Call → Response → Bool
@@ -23,7 +21,7 @@ concerns t Sum r = false
 
 -- an accepted call on ticket t, its open included
 abbrev pub isOn : ℕ → Event → Bool
-isOn t e = accepted e && concerns t (e .call) (e .response)
+isOn t e = accepted (e .response .answer) && concerns t (e .call) (e .response)
 
 -- the bytes that it feeds, if it is a feed
 abbrev pub fedBy : Call → List ℕ
@@ -107,7 +105,7 @@ givenBy Sum r = []
 
 unfoldable pub tickets : List Event → List ℕ
 tickets [] = []
-tickets (e ∷ es) = cond (accepted e) (givenBy (e .call) (e .response)) [] ++ tickets es
+tickets (e ∷ es) = cond (accepted (e .response .answer)) (givenBy (e .call) (e .response)) [] ++ tickets es
 
 -- ---- the calls on a ticket, once it is issued
 

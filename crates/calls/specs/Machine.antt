@@ -42,7 +42,7 @@ emptyMachine = record { next = 1; entries = [] }
 
 -- ---- an entry
 
--- document 01's run count for n bytes fed and d drawn
+-- document 01's run count for n bytes fed and d drawn. The key is there since where feeding starts takes it; the count does not depend on it (`formula-is`)
 unfoldable pub formula : Mode → List ℕ → Bool → ℕ → ℕ → ℕ
 formula mode key feeding n d =
     cond feeding (runsFeeding (row mode) (start (row mode) key .runs) n) (runsEnded (row mode) (start (row mode) key .runs) n d)

@@ -18,7 +18,8 @@ use Rattle.script.specs.Line.{Field, bytes as bytesField, Line}
 use Rattle.script.specs.Parsed.{fieldIn, lineWith}
 use Rattle.interpreter.specs.declared.Session.{Session}
 use Rattle.interpreter.specs.declared.line.Stepped.{Stepped}
-use Rattle.interpreter.specs.Script.{drawOf, callFor, callOf, verbOf, bytesFor, answered, bytesAfter}
+use Rattle.interpreter.specs.Script.{drawOf, callFor, callOf, verbOf, bytesFor, answered}
+use Rattle.interpreter.specs.Promises.{bytesAfter}
 use Rattle.interpreter.specs.Session.{goOn, called}
 use Rattle.interpreter.specs.Promises.{Stepping}
 

@@ -4,6 +4,7 @@
 use mathlib.Core.Path.{_≡_, refl}
 use mathlib.Core.Bool.{Bool, true, false}
 use mathlib.Core.List.{[], _∷_}
+use Prim.Native.Char.{code}
 use Prim.Native.String.{String}
 use Rattle.mode.specs.Mode.{row, named}
 use Rattle.sponge.specs.Sponge.{ceiling, start, oneShot, output as spongeOutput, squeezeBytes, runsFeeding, runsEnded}
@@ -54,6 +55,7 @@ use Rattle.script.specs.Line.{verbOf, isDash, isHex, bytesOf, noBytesOf, countV
 use Rattle.script.specs.Answer.{answerLine}
 use Rattle.script.specs.Input.{lines}
 use Rattle.interpreter.specs.Script.{callOf, wordFor, numberFor, bytesFor, answered, answers, aCall, aFault, meaning, scriptFrom, scriptOf, printedOf, output}
+use Rattle.interpreter.specs.Session.{begun, readerOf, holding, byteStep}
 
 -- ---- one call
 
@@ -92,6 +94,13 @@ meant-calls = (refl, refl, refl, refl, refl, refl)
 pub last-lines : (meaning 1000000 (text "sum 0 -") ≡ aCall sumCall) × (meaning 1000001 (text "sum 0 -") ≡ aFault)
 unfolding meaning callOf parse fields fieldOf noBytesOf isDash verbOf same before after isDigit allDigits plainStart valueFrom isNumber numberOf
 last-lines = (refl, refl)
+
+-- a line's 2,100th byte is taken, and its 2,101st stops the script
+pub longest-line :
+    (byteStep (readerOf (holding begun 2099) []) (code "x") .reader .session .going ≡ true)
+    × (byteStep (readerOf (holding begun 2100) []) (code "x") .reader .session .going ≡ false)
+unfolding byteStep begun
+longest-line = (refl, refl)
 
 -- ---- whole scripts
 

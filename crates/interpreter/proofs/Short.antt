@@ -11,7 +11,7 @@ use Rattle.checks.specs.Checks.{OneCheck, checked}
 use Rattle.checks.specs.Buffers.{written}
 use Rattle.checks.specs.Equality.{same}
 use Rattle.calls.specs.declared.Answer.{Answer}
-use Rattle.calls.specs.Answer.{counted}
+use Rattle.calls.specs.Answer.{accepted, counted}
 use Rattle.calls.specs.Checks.{drawChecks}
 use Rattle.calls.specs.Call.{Step, step, refuse}
 use Rattle.sponge.specs.declared.record.Record.{Record}
@@ -26,7 +26,7 @@ use Rattle.script.specs.Line.{Field, bytes, count, Line, FieldFits, mostBytes, 
 use Rattle.script.proofs.Answers.{answer-long}
 use Rattle.script.proofs.RoundTrip.{printed-lines}
 use Rattle.interpreter.specs.declared.Session.{Session}
-use Rattle.interpreter.specs.Script.{names, mostLines, drawOf, callFor, callOf, verbOf, accepted, acceptedBytes, wordFor, numberFor, bytesFor, answered, theNames, aFault, asCall, meaning}
+use Rattle.interpreter.specs.Script.{names, mostLines, drawOf, callFor, callOf, verbOf, acceptedBytes, wordFor, numberFor, bytesFor, answered, theNames, aFault, asCall, meaning}
 use Rattle.interpreter.specs.Session.{longestAnswer, stepBy, stepped}
 
 -- what holds of every way out of a list of checks holds of its answer

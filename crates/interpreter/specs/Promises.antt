@@ -1,9 +1,11 @@
--- What the functions promise that write into a lent buffer from a place on.
+-- What the functions promise that write into a lent buffer: from a place on, or over the bytes that a line was read into.
 -- Assumes nothing.
 use mathlib.Core.Path.{_≡_}
 use mathlib.Core.List.{List, _++_}
 use Prim.Native.Nat.{ℕ, _+_, _≤_, _<_}
 use lib.ListN.{length, drop}
+use Rattle.script.specs.declared.line.Verb.{Verb}
+use Rattle.script.specs.declared.line.Verb.the-variants.{Open, Feed, Draw, Check, Close, Sum}
 use Rattle.script.specs.Text.{Wrote}
 use Rattle.interpreter.specs.declared.line.Stepped.{Stepped}
 use Rattle.interpreter.specs.declared.Session.{Session}
@@ -25,3 +27,12 @@ pub record Advancing (s : Session) (line chunk : List ℕ) (at : ℕ) (out : Lis
   pub within : r .next ≤ length chunk
   pub taken : (size : ℕ) (before : List ℕ) → length before + longestAnswer ≤ size
       → filled size (readerOf s line) before (drop at chunk) ≡ filled size (readerOf (r .session) line′) (before ++ text) (drop (r .next) chunk)
+
+-- the bytes that a line was read into, after its call: those drawn, or as they were
+abbrev pub bytesAfter : Verb → List ℕ → List ℕ → List ℕ
+bytesAfter Open bytes buffer = bytes
+bytesAfter Feed bytes buffer = bytes
+bytesAfter Draw bytes buffer = buffer
+bytesAfter Check bytes buffer = bytes
+bytesAfter Close bytes buffer = bytes
+bytesAfter Sum bytes buffer = bytes

@@ -8,6 +8,7 @@ use lib.Dec.{eqb, leb}
 use lib.ListN.{replicate}
 use Rattle.checks.specs.Equality.{same}
 use Rattle.calls.specs.declared.Answer.{Answer}
+use Rattle.calls.specs.Answer.{accepted}
 use Rattle.calls.specs.Call.{
   Call,
   Open as openCall,
@@ -70,9 +71,6 @@ verbOf (checkCall t tag) = Check
 verbOf (closeCall t) = Close
 verbOf sumCall = Sum
 
-abbrev pub accepted : Answer → Bool
-accepted a = eqb (a .refusal) 0
-
 abbrev pub verdictWord : Bool → Word
 verdictWord true = Pass
 verdictWord false = Fail
@@ -114,15 +112,6 @@ bytesFor v a buffer = cond (accepted a) (acceptedBytes v buffer) []
 
 unfoldable pub answered : Verb → Answer → List ℕ → List ℕ
 answered v a buffer = answerLine (wordFor v a) (numberFor v a) (bytesFor v a buffer)
-
--- the bytes that a line was read into, after its call: those drawn, or as they were
-abbrev pub bytesAfter : Verb → List ℕ → List ℕ → List ℕ
-bytesAfter Open bytes buffer = bytes
-bytesAfter Feed bytes buffer = bytes
-bytesAfter Draw bytes buffer = buffer
-bytesAfter Check bytes buffer = bytes
-bytesAfter Close bytes buffer = bytes
-bytesAfter Sum bytes buffer = bytes
 
 -- all answers of a list of calls
 unfoldable pub answers : List Event → List ℕ

@@ -9,6 +9,7 @@ ghost use lib.ListN.{length, replicate};
 ghost use Rattle.hub.specs.Hub.{onHub, replyOf};
 ghost use Rattle.script.specs.Text.{Wrote};
 ghost use Rattle.script.specs.Parsed.{lineWith};
+ghost use Rattle.interpreter.specs.Promises.{bytesAfter};
 ghost use Rattle.interpreter.specs.Script as spec;
 
 fn clear(buffer: &mut [u8])
@@ -34,7 +35,7 @@ fn draw(before: Hub, ticket: u32, buffer: &mut [u8]) -> Reply
 // Makes the call. The bytes are the line's; for a draw they are as many as it draws, and then those drawn.
 pub(crate) fn call(before: Hub, verb: Verb, number: u32, bytes: &mut [u8]) -> Reply
     ensures reply { λ r. ⌜ r ≡ replyOf (onHub (spec.callOf (lineWith verb number (length (now (bytes .entry))) (now (bytes .entry)))) before) ⌝ }
-    ensures bytes { λ r. ⌜ now (bytes .exit) ≡ spec.bytesAfter verb (now (bytes .entry)) (onHub (spec.callOf (lineWith verb number (length (now (bytes .entry))) (now (bytes .entry)))) before .response .buffer) ⌝ }
+    ensures bytes { λ r. ⌜ now (bytes .exit) ≡ bytesAfter verb (now (bytes .entry)) (onHub (spec.callOf (lineWith verb number (length (now (bytes .entry))) (now (bytes .entry)))) before .response .buffer) ⌝ }
 {
     match verb {
         Verb::Open => hub::open(before, number, bytes),

@@ -8,7 +8,6 @@ pub use chunk::fill;
 pub use chunk::finish;
 use hub::Hub;
 pub use line::Stepped;
-pub use line::step;
 ghost use mathlib.Core.Path.{_≡_};
 ghost use Prim.Native.Nat.{_<_};
 ghost use Rattle.interpreter.specs.Session as spec;

@@ -25,8 +25,8 @@ pub(crate) fn stop(session: Session, out: &mut [u8], from: usize) -> Stepped
     }
 }
 
-// Runs a line on a session, which the caller knows to be going: what it prints goes into out from a place on. What does not fit is left out.
-pub fn step(session: Session, line: &[u8], out: &mut [u8], from: usize) -> Stepped
+// Runs a line on a session that is going: what it prints goes into out from a place on. What does not fit is left out.
+pub(crate) fn step(session: Session, line: &[u8], out: &mut [u8], from: usize) -> Stepped
     ensures { λ r. ⌜ Stepping (stepped session (now (line .entry))) (now (out .entry)) from r (now (out .exit)) ⌝ }
 {
     let number = session.number;

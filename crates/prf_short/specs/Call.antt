@@ -1,4 +1,4 @@
--- What a call of the short function gives, for a key, a message, a lent buffer and an output length t of any lengths: document 01's checks 2, 5 and 6.
+-- What a call of the short function gives, for any key, message and lent buffer and any output length t: document 01's checks 2, 5 and 6.
 -- Assumes nothing.
 use mathlib.Core.Bool.{Bool, not, _||_}
 use mathlib.Core.List.{List, [], _∷_}

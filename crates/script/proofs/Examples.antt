@@ -2,7 +2,7 @@
 -- Assumes nothing.
 use mathlib.Core.Path.{_≡_, refl}
 use mathlib.Core.Bool.{true, false}
-use mathlib.Core.List.{[], _∷_}
+use mathlib.Core.List.{[], _∷_, _++_}
 use lib.ListN.{replicate}
 use Rattle.checks.specs.Equality.{same}
 use Rattle.script.specs.declared.line.Verb.the-variants.{Open, Feed, Draw, Check, Close, Sum}
@@ -48,8 +48,12 @@ pub ill-formed :
     × (parse (text "draw 7 -") ≡ malformed)
     × (parse (text "draw 7 04") ≡ malformed)
     × (parse (text "Feed 1 09") ≡ malformed)
+    -- a carriage return, a tab for a space, a byte that is no character
+    × (parse (text "sum 0 -" ++ (0x0d ∷ [])) ≡ malformed)
+    × (parse (text "sum" ++ (0x09 ∷ text "0 -")) ≡ malformed)
+    × (parse (text "feed 1 0" ++ (0xe1 ∷ [])) ≡ malformed)
 unfolding parse fields fieldOf countOf isCount countValue noBytesOf bytesOf isHex isDash verbOf same before after isDigit allDigits plainStart valueFrom isNumber numberOf nibble hexPairs decoded
-ill-formed = (refl, refl, refl, refl, refl, refl, refl, refl, refl, refl, refl, refl, refl, refl, refl, refl, refl, refl)
+ill-formed = (refl, refl, refl, refl, refl, refl, refl, refl, refl, refl, refl, refl, refl, refl, refl, refl, refl, refl, refl, refl, refl)
 
 pub answers :
     (answerLine No 12 [] ≡ text "no 12 -\n")

@@ -1,6 +1,6 @@
 -- What is done to a record, byte by byte: document 01's record of a ticket, a sponge that is not done yet. The row of its mode is a parameter of each step.
--- Counts and lengths are 64-bit numbers and wrap where `sum64` says so: nothing here limits how much is fed or drawn. A record that has had 2 ^ 64 bytes drawn
--- is told by its count as one that has had none drawn, and no run is made before its next byte.
+-- Counts and lengths are 64-bit numbers and wrap where `sum64` says so: nothing here limits how much is fed or drawn. A record from
+-- which 2 ^ 64 bytes were drawn has the count of one from which none was, so that no run is made before its next byte.
 -- Assumes nothing.
 use mathlib.Core.Bool.{Bool, true, false, cond, not, _&&_}
 use mathlib.Core.List.{List, [], _∷_}

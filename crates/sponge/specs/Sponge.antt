@@ -39,7 +39,7 @@ unfoldable pub cut : ℕ → ℕ → List ℕ → List (List ℕ)
 cut zero R bs = []
 cut (suc k) R bs = take R bs ∷ cut k R (drop R bs)
 
--- bytes cut into blocks of R [M_1 .. M_s]
+-- bytes cut into blocks of R [M_1 .. M_s]. Padded, a message fills the last one, so that nothing is left over
 unfoldable pub blocks : ℕ → List ℕ → List (List ℕ)
 blocks R bs = cut (length bs / R) R bs
 

@@ -70,16 +70,16 @@ unfoldable pub squeezedParts : List ℕ → Record → Record
 squeezedParts [] r = r
 squeezedParts (k ∷ ks) r = squeezedParts ks (squeezed k r)
 
--- A fresh record of a mode under a key is fed a message in these parts, finished, and squeezed for these counts. Nothing is asked of the message; of the output
--- fewer than 2 ^ 64 bytes are drawn.
+-- A fresh record of a mode under a key is fed a message in these parts, finished, and squeezed for these counts, of fewer than 2 ^ 64 bytes in all. Bytes and verdict ask
+-- nothing of the message.
 pub record StreamingCalls (ticket : ℕ) (mode : Mode) (key : List ℕ) (parts : List (List ℕ)) (counts : List ℕ) : Type 0 where
-  -- while feeding lasts the runs are the formula's
+  -- while feeding lasts the runs are the formula's, wherever that is a number of 64 bits
   pub feeding-runs : runsFeeding (row mode) (start (row mode) key .runs) (length (joined parts)) < 2 ^ 64
       → absorbedParts parts (fresh ticket mode key) .runs ≡ runsFeeding (row mode) (start (row mode) key .runs) (length (joined parts))
   -- the bytes drawn, joined, are as many first bytes of the one-shot output for the joined message
   pub bytes : total counts < 2 ^ 64
       → nextParts counts (finished (absorbedParts parts (fresh ticket mode key))) ≡ oneShot (row mode) key (joined parts) (total counts)
-  -- once feeding has ended the runs are the formula's
+  -- once feeding has ended the runs are the formula's, wherever that is a number of 64 bits
   pub ended-runs : total counts < 2 ^ 64
       → runsEnded (row mode) (start (row mode) key .runs) (length (joined parts)) (total counts) < 2 ^ 64
       → squeezedParts counts (finished (absorbedParts parts (fresh ticket mode key))) .runs

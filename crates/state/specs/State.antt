@@ -1,4 +1,4 @@
--- What one function of the code promises beside the definitions of crate word.
+-- Whole words of a list of bytes, of which `xor_words` takes no others; all else that this crate promises is in crate word's definitions of bytes.
 -- Assumes nothing.
 use mathlib.Core.List.{List}
 use Prim.Native.Nat.{ℕ, _*_, _/_}

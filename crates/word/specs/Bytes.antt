@@ -9,7 +9,7 @@ use lib.Dec.{eqb}
 use lib.ListN.{length, getD, set, take, drop, replicate}
 use lib.Bits.{bitXor}
 
--- what byte k counts in its word
+-- the weight of byte k in its word: 2 ^ 56 for the first of eight, 1 for the last
 unfoldable pub weight : ℕ → ℕ
 weight k = 2 ^ (8 * (7 - k % 8))
 
@@ -58,7 +58,7 @@ unfoldable pub toBytes : ℕ → ℕ → List ℕ
 toBytes zero x = []
 toBytes (suc n) x = x / 2 ^ (8 * n) % 256 ∷ toBytes n x
 
--- the n words that 8 × n bytes make
+-- the n words that 8 × n bytes make, the first byte of each on top
 unfoldable pub wordsOf : ℕ → List ℕ → List ℕ
 wordsOf zero bs = []
 wordsOf (suc n) bs = fromBytes (take 8 bs) ∷ wordsOf n (drop 8 bs)

@@ -1,4 +1,4 @@
--- Words as numbers, told by their bits, of which place 0 is the lowest. Exclusive or is the library's own `bitXor`.
+-- Words: a word is a number, and its bits are counted from place 0, the lowest. Exclusive or is the library's own `bitXor`.
 -- proofs/ has a law on what each means bit by bit: `bit-word`, `bit-number`, `rotr-bits`, `xor-bits`.
 -- Assumes nothing.
 use mathlib.Core.List.{List, [], _∷_, map}

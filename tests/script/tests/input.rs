@@ -174,10 +174,37 @@ fn in_odd_pieces() {
     }
 }
 
-/// Each answer is read before the next line is written, and after a malformed line the program ends though its input stays open.
+/// Writes a piece and reads its answers before the next piece is written. After the last answer, which stops the script, the program ends though its input stays open.
+fn converse(turns: Vec<(&str, Vec<&str>)>) {
+    let owned = |text: &str| text.to_owned();
+    let turns: Vec<(String, Vec<String>)> = turns
+        .into_iter()
+        .map(|(written, answers)| (owned(written), answers.into_iter().map(owned).collect()))
+        .collect();
+    let mut child = start(&program(), Stdio::piped());
+    let mut stdin = child.stdin.take().unwrap();
+    let mut lines = BufReader::new(child.stdout.take().unwrap()).lines();
+    let stdin = in_time(&mut child, move || {
+        for (written, answers) in turns {
+            stdin.write_all(written.as_bytes()).expect("it still reads");
+            if answers.is_empty() {
+                // Time for a program that would end here, whose next piece then finds no reader.
+                sleep(Duration::from_millis(200));
+            }
+            for answer in answers {
+                assert_eq!(lines.next().expect("an answer").unwrap(), answer);
+            }
+        }
+        assert!(lines.next().is_none());
+        stdin
+    });
+    ends(&mut child);
+    drop(stdin);
+}
+
 #[test]
 fn in_turns() {
-    let turns = [
+    converse(vec![
         ("call number bytes\n", vec!["answer number bytes"]),
         ("open 2 000102030405060708090a0b0c0d0e0f\n", vec!["ok 1 -"]),
         (
@@ -190,22 +217,17 @@ fn in_turns() {
         ("\n", vec!["ok 2 -"]),
         ("draw 1 0001\n", vec!["no 12 -"]),
         ("close 1\n", vec!["stop 9 -"]),
-    ];
-    let mut child = start(&program(), Stdio::piped());
-    let mut stdin = child.stdin.take().unwrap();
-    let mut lines = BufReader::new(child.stdout.take().unwrap()).lines();
-    let stdin = in_time(&mut child, move || {
-        for (written, answers) in turns {
-            stdin.write_all(written.as_bytes()).unwrap();
-            for answer in answers {
-                assert_eq!(lines.next().expect("an answer").unwrap(), answer);
-            }
-        }
-        assert!(lines.next().is_none());
-        stdin
-    });
-    ends(&mut child);
-    drop(stdin);
+    ]);
+}
+
+/// A line may have 2,100 bytes, though none of that length is well-formed; the next byte stops the script, with no newline.
+#[test]
+fn the_byte_that_is_one_too_many() {
+    converse(vec![
+        ("call number bytes\n", vec!["answer number bytes"]),
+        (&"x".repeat(2_100), vec![]),
+        ("x", vec!["stop 2 -"]),
+    ]);
 }
 
 /// A script whose output is larger than any buffer.
