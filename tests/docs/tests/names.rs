@@ -43,7 +43,7 @@ fn every_crate_is_drawn_and_described() {
             text.contains(&format!("\n| `{name}` |")),
             "{name} has no row"
         );
-        let boxed = [format!("│ {name} "), format!("║ {name} ")];
-        assert!(boxed.iter().any(|b| text.contains(b)), "{name} has no box");
+        let boxed = |edge| text.contains(&format!("{edge} {name} "));
+        assert!(["│", "║", "┤"].into_iter().any(boxed), "{name} has no box");
     }
 }

@@ -102,7 +102,7 @@ fn long_messages_and_long_outputs() {
 fn messages_and_outputs_of_megabytes() {
     let message = Numbers(4).bytes(16_777_216);
     for mode in MODES {
-        assert_agrees(mode, &KEY, &message, 9_999_999, 1_048_577, 777_777);
+        assert_agrees(mode, &KEY, &message, 1_048_577, [(9_999_999, 777_777)]);
     }
     let mut mac = reference::mac(&KEY, &message);
     assert_eq!(tag(&KEY, &message, &mac), 1);
