@@ -86,11 +86,12 @@ impl Names {
     }
 }
 
-/// Whether a path as a document writes it exists: from the top, below `crates/`, or in one of the crates.
+/// Whether a path as a document writes it exists: from the top, below `crates/` or `tests/`, or in one of the crates.
 pub fn exists(path: &str) -> bool {
     let below = |folder: PathBuf| folder.join(path).exists();
     below(root())
         || below(root().join("crates"))
+        || below(root().join("tests"))
         || crates()
             .iter()
             .any(|name| below(root().join("crates").join(name)))

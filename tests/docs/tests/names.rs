@@ -19,7 +19,13 @@ fn missing<'a>(names: &Names, text: &'a str) -> Vec<&'a str> {
 #[test]
 fn what_is_named_exists() {
     let names = Names::of_sources();
-    for document in ["docs/TRACE.md", "docs/EVIDENCE.md", "docs/ARCHITECTURE.md"] {
+    for document in [
+        "docs/TRACE.md",
+        "docs/EVIDENCE.md",
+        "docs/ARCHITECTURE.md",
+        "tests/README.md",
+        "README.md",
+    ] {
         let text = read(document);
         assert!(quoted(&text).len() > 50, "{document} names next to nothing");
         let none: [&str; 0] = [];
