@@ -1,5 +1,6 @@
 /* See plain.h. The bitsliced form that implementations of Ascon commonly have. */
 #include "plain.h"
+#include "load.h"
 
 #include <string.h>
 
@@ -47,13 +48,7 @@ uint64_t plain_permute_chain(uint64_t x0, uint64_t times) {
     return s[0];
 }
 
-/* Eight bytes as a word, the first on top, in one load; a word as eight bytes, in one store. */
-static inline uint64_t load(const uint8_t *bytes) {
-    uint64_t x;
-    memcpy(&x, bytes, 8);
-    return __builtin_bswap64(x);
-}
-
+/* A word as eight bytes, in one store. */
 static inline void store(uint8_t *bytes, uint64_t x) {
     x = __builtin_bswap64(x);
     memcpy(bytes, &x, 8);

@@ -1,4 +1,5 @@
 /* The script program in plain C, the peer of rampscript: it reads the same lines from standard input and prints the same answers. */
+#include "load.h"
 #include "plain.h"
 
 #include <errno.h>
@@ -56,20 +57,30 @@ static void put(const char *text, size_t length) {
     filled += length;
 }
 
-/* An answer: its word, the number, and bytes or a dash. */
-static void answer(const char *word, uint64_t number, size_t count) {
+/* An answer: its word and number, and how many bytes it has. */
+struct answer {
+    const char *word;
+    uint64_t number;
+    size_t count;
+};
+
+static struct answer ok(uint64_t number) { return (struct answer){"ok", number, 0}; }
+static struct answer no(uint32_t refusal) { return (struct answer){"no", refusal, 0}; }
+static struct answer stop(uint32_t line) { return (struct answer){"stop", line, 0}; }
+
+static void print(struct answer answer) {
     static const char digits[] = "0123456789abcdef";
     char decimal[20];
     size_t n = sizeof decimal;
     if (BUFFER - filled < LONGEST_ANSWER) flush();
-    put(word, strlen(word));
+    put(answer.word, strlen(answer.word));
     put(" ", 1);
-    do decimal[--n] = (char)('0' + number % 10);
-    while (number /= 10);
+    do decimal[--n] = (char)('0' + answer.number % 10);
+    while (answer.number /= 10);
     put(decimal + n, sizeof decimal - n);
     put(" ", 1);
-    if (count == 0) put("-", 1);
-    for (size_t i = 0; i < count; i++) {
+    if (answer.count == 0) put("-", 1);
+    for (size_t i = 0; i < answer.count; i++) {
         output[filled++] = digits[bytes[i] >> 4];
         output[filled++] = digits[bytes[i] & 15];
     }
@@ -79,12 +90,6 @@ static void answer(const char *word, uint64_t number, size_t count) {
 static void run(struct record *r) {
     plain_permute_row(r->words, 5);
     r->runs++;
-}
-
-static uint64_t load(const uint8_t *from) {
-    uint64_t x;
-    memcpy(&x, from, 8);
-    return __builtin_bswap64(x);
 }
 
 static void xor_byte(struct record *r, uint32_t at, uint8_t byte) { r->words[at / 8] ^= (uint64_t)byte << (56 - at % 8 * 8); }
@@ -141,70 +146,64 @@ static uint32_t find(uint32_t ticket, struct record **r) {
     return 12;
 }
 
-/* The calls: each gives its refusal, or 0 having answered. */
-static uint32_t call_open(uint32_t mode, size_t key) {
+/* The calls. */
+static struct answer call_open(uint32_t mode, size_t key) {
     struct record *r = hub.records;
-    if (mode < 1 || mode > 4) return 1;
-    if (key != modes[mode].key) return 2;
-    if (hub.issued == UINT32_MAX) return 14;
+    if (mode < 1 || mode > 4) return no(1);
+    if (key != modes[mode].key) return no(2);
+    if (hub.issued == UINT32_MAX) return no(14);
     while (r < hub.records + TICKETS && r->ticket) r++;
-    if (r == hub.records + TICKETS) return 13;
+    if (r == hub.records + TICKETS) return no(13);
     *r = (struct record){.words = {modes[mode].start}, .ticket = ++hub.issued, .mode = mode, .feeding = 1};
     if (key) {
         r->words[1] = load(bytes);
         r->words[2] = load(bytes + 8);
     }
     run(r);
-    answer("ok", r->ticket, 0);
-    return 0;
+    return ok(r->ticket);
 }
 
-static uint32_t call_feed(struct record *r, size_t count) {
-    if (!r->feeding) return 15;
-    if (r->fed + count > MOST_FED) return 16;
+static struct answer call_feed(struct record *r, size_t count) {
+    if (!r->feeding) return no(15);
+    if (r->fed + count > MOST_FED) return no(16);
     feed(r, count);
-    answer("ok", r->runs, 0);
-    return 0;
+    return ok(r->runs);
 }
 
-static uint32_t call_draw(struct record *r, size_t count) {
-    if (r->drawn + count > modes[r->mode].most_drawn) return 17;
+static struct answer call_draw(struct record *r, size_t count) {
+    if (r->drawn + count > modes[r->mode].most_drawn) return no(17);
     end_feeding(r);
     draw(r, count);
-    answer("ok", r->runs, count);
-    return 0;
+    return (struct answer){"ok", r->runs, count};
 }
 
-static uint32_t call_check(struct record *r, size_t tag) {
-    if (r->mode != 2) return 18;
-    if (tag < 8 || tag > 16) return 4;
+static struct answer call_check(struct record *r, size_t tag) {
+    if (r->mode != 2) return no(18);
+    if (tag < 8 || tag > 16) return no(4);
     end_feeding(r);
-    answer(tag_matches(r, tag) ? "pass" : "fail", r->runs, 0);
-    return 0;
+    return (struct answer){tag_matches(r, tag) ? "pass" : "fail", r->runs, 0};
 }
 
-static uint32_t call_close(struct record *r, size_t none) {
+static struct answer call_close(struct record *r, size_t none) {
     (void)none;
     r->ticket = 0;
     hub.closed_runs += r->runs;
-    answer("ok", r->runs, 0);
-    return 0;
+    return ok(r->runs);
 }
 
 /* A call on a ticket. */
-static inline uint32_t on(uint32_t ticket, uint32_t (*call)(struct record *, size_t), size_t count) {
+static inline struct answer on(uint32_t ticket, struct answer (*call)(struct record *, size_t), size_t count) {
     struct record *r;
     uint32_t refusal = find(ticket, &r);
-    return refusal ? refusal : call(r, count);
+    return refusal ? no(refusal) : call(r, count);
 }
 
-static uint32_t call_sum(void) {
+static struct answer call_sum(void) {
     uint64_t sum = hub.closed_runs;
     for (int i = 0; i < TICKETS; i++) {
         if (hub.records[i].ticket) sum += hub.records[i].runs;
     }
-    answer("ok", sum, 0);
-    return 0;
+    return ok(sum);
 }
 
 /* A digit's value, or 16. */
@@ -248,30 +247,31 @@ static int run_line(const uint8_t *p, const uint8_t *end) {
         size_t length;
     } calls[] = {{"open ", 5}, {"feed ", 5}, {"draw ", 5}, {"check ", 6}, {"close ", 6}, {"sum ", 4}};
     size_t which = 0, count;
-    uint32_t number, refusal;
+    uint32_t number;
+    struct answer answer;
     while (which < 6 && ((size_t)(end - p) < calls[which].length || memcmp(p, calls[which].name, calls[which].length))) which++;
     if (which == 6) return 0;
     p = read_number(p + calls[which].length, end, &number);
     if (!p || !read_bytes(p, end, &count)) return 0;
     switch (which) {
-    case 0: refusal = call_open(number, count); break;
-    case 1: refusal = on(number, call_feed, count); break;
+    case 0: answer = call_open(number, count); break;
+    case 1: answer = on(number, call_feed, count); break;
     case 2:
         if (count != 2) return 0;
         count = (size_t)bytes[0] << 8 | bytes[1];
         if (count > MOST_BYTES) return 0;
-        refusal = on(number, call_draw, count);
+        answer = on(number, call_draw, count);
         break;
-    case 3: refusal = on(number, call_check, count); break;
+    case 3: answer = on(number, call_check, count); break;
     case 4:
         if (count) return 0;
-        refusal = on(number, call_close, count);
+        answer = on(number, call_close, count);
         break;
     default:
         if (number || count) return 0;
-        refusal = call_sum();
+        answer = call_sum();
     }
-    if (refusal) answer("no", refusal, 0);
+    print(answer);
     return 1;
 }
 
@@ -280,7 +280,7 @@ static int take_line(uint32_t line, const uint8_t *p, const uint8_t *end) {
     static const char names[] = "call number bytes";
     size_t length = (size_t)(end - p);
     int right = line == 1 ? length == sizeof names - 1 && memcmp(p, names, length) == 0 : line <= MOST_LINES && length <= LONGEST_LINE && run_line(p, end);
-    if (!right) answer("stop", line, 0);
+    if (!right) print(stop(line));
     return right;
 }
 
@@ -297,7 +297,7 @@ int main(void) {
             continue;
         }
         if (end - begin > LONGEST_LINE) {
-            answer("stop", line, 0);
+            print(stop(line));
             break;
         }
         flush();

@@ -10,6 +10,7 @@
  *
  * It prints a line for each test, and ends with 'N passed, M failed'. */
 #include "bench.h"
+#include "expect.h"
 #include "faulty.h"
 #include "plain.h"
 #include "sign.h"
@@ -41,13 +42,6 @@ static const size_t bodies[] = {0, 1, 7, 8, 15, 16, 31, 32, 33, 63, 64, 65, 100,
 enum { BODIES = sizeof bodies / sizeof *bodies };
 
 static uint8_t key[MOST], message[MOST];
-static int wrong;
-
-/* Counts a wrong result, and prints the first few of a test. */
-static void expect(int holds, const char *what, size_t a, size_t b) {
-    if (holds) return;
-    if (wrong++ < 5) printf("    %s: %zu, %zu\n", what, a, b);
-}
 
 /* A block of so many bytes, copied from others. */
 static void *block(const void *bytes, size_t length) {
@@ -163,20 +157,30 @@ static void frame_refused(uint32_t number, size_t n, size_t length, size_t body)
     free(frame);
 }
 
-static void refusals(void) {
-    static const size_t keys[] = {0, 1, 15, 17, 32}, lengths[] = {0, 1, 15, 16, 17, 100};
+static void refused_keys(void) {
+    static const size_t keys[] = {0, 1, 15, 17, 32};
     for (size_t i = 0; i < sizeof keys / sizeof *keys; i++) {
         short_refused(ASCON_REFUSED_KEY, keys[i], 4, 8, 8);
         short_refused(ASCON_REFUSED_KEY, keys[i], 17, 0, 17);
         frame_refused(ASCON_REFUSED_KEY, keys[i], 60, 44);
         frame_refused(ASCON_REFUSED_KEY, keys[i], 0, SIZE_MAX);
     }
+}
+
+static void refused_messages(void) {
     for (size_t m = 17; m <= 1000; m += 59) short_refused(ASCON_REFUSED_MESSAGE, 16, m, 8, 9);
+}
+
+static void refused_outputs(void) {
     for (size_t lent = 0; lent <= 18; lent++) {
         for (size_t t = 0; t <= 18; t++) {
             if (lent != t || t < 1 || t > 16) short_refused(ASCON_REFUSED_OUTPUT, 16, 4, lent, t);
         }
     }
+}
+
+static void refused_frames(void) {
+    static const size_t lengths[] = {0, 1, 15, 16, 17, 100};
     for (size_t i = 0; i < sizeof lengths / sizeof *lengths; i++) {
         frame_refused(ASCON_REFUSED_FRAME, 16, lengths[i], lengths[i] < 16 ? 0 : lengths[i] - 15);
         frame_refused(ASCON_REFUSED_FRAME, 16, lengths[i], lengths[i]);
@@ -245,7 +249,10 @@ static const struct {
     {"short_calls", short_calls},
     {"sealed_frames", sealed_frames},
     {"judged_frames", judged_frames},
-    {"refusals", refusals},
+    {"refused_keys", refused_keys},
+    {"refused_messages", refused_messages},
+    {"refused_outputs", refused_outputs},
+    {"refused_frames", refused_frames},
     {"permuted_states", permuted_states},
     {"sponges", sponges},
     {"feeds", feeds},

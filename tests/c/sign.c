@@ -1,5 +1,6 @@
 /* The functions of include/sign.h, called from C: against the outside vectors, and against plain C (bench/plain.c), which shares nothing with the proved code.
  * It takes the path of the vectors, prints a line for each test, and ends with 'N passed, M failed'. */
+#include "expect.h"
 #include "plain.h"
 #include "sign.h"
 
@@ -11,13 +12,6 @@ enum { BEFORE = 0xa5, MOST = 512, LONG_BODY = 16777217 };
 
 static const uint8_t key[16] = {0, 1, 2, 3, 4, 5, 6, 7, 8, 9, 10, 11, 12, 13, 14, 15};
 static const char *vectors;
-static int failures;
-
-/* Counts a failure, and prints the first few of a test. */
-static void expect(int holds, const char *what, size_t a, size_t b) {
-    if (holds) return;
-    if (failures++ < 5) printf("    %s: %zu, %zu\n", what, a, b);
-}
 
 static void counting(uint8_t *bytes, size_t length) {
     for (size_t i = 0; i < length; i++) bytes[i] = (uint8_t)i;
@@ -108,16 +102,22 @@ static void short_refused(uint32_t number, size_t key_length, size_t m, size_t o
     expect(memcmp(out, kept, MOST) == 0, "a refused buffer", key_length, m);
 }
 
-static void refusals_of_the_short_function(void) {
+static void refused_keys_of_the_short_function(void) {
     for (size_t n = 0; n <= 300; n++) {
         if (n == 16) continue;
         short_refused(ASCON_REFUSED_KEY, n, 4, 8, 8);
         short_refused(ASCON_REFUSED_KEY, n, 17, 8, 9);
     }
+}
+
+static void refused_messages_of_the_short_function(void) {
     for (size_t m = 17; m <= 300; m++) {
         short_refused(ASCON_REFUSED_MESSAGE, 16, m, 8, 8);
         short_refused(ASCON_REFUSED_MESSAGE, 16, m, 8, 9);
     }
+}
+
+static void refused_outputs_of_the_short_function(void) {
     for (size_t out = 0; out <= 20; out++) {
         for (size_t t = 0; t <= 20; t++) {
             if (out == t && t >= 1 && t <= 16) continue;
@@ -195,13 +195,16 @@ static void frame_refused(uint32_t number, size_t key_length, size_t frame_lengt
     expect(memcmp(frame, kept, MOST) == 0, "a judged frame", frame_length, body);
 }
 
-static void refusals_of_frames(void) {
+static void refused_keys_of_frames(void) {
     for (size_t n = 0; n <= 300; n++) {
         if (n == 16) continue;
         frame_refused(ASCON_REFUSED_KEY, n, 60, 44);
         frame_refused(ASCON_REFUSED_KEY, n, 60, 45);
         frame_refused(ASCON_REFUSED_KEY, n, 0, SIZE_MAX);
     }
+}
+
+static void frames_with_no_room_for_the_tag(void) {
     for (size_t length = 0; length <= 64; length++) {
         for (size_t body = length < 16 ? 0 : length - 15; body <= 80; body++) frame_refused(ASCON_REFUSED_FRAME, 16, length, body);
     }
@@ -236,11 +239,14 @@ int main(int argc, char **argv) {
     } tests[] = {
         {"vectors_of_the_short_function", vectors_of_the_short_function},
         {"short_function_beside_plain_c", short_function_beside_plain_c},
-        {"refusals_of_the_short_function", refusals_of_the_short_function},
+        {"refused_keys_of_the_short_function", refused_keys_of_the_short_function},
+        {"refused_messages_of_the_short_function", refused_messages_of_the_short_function},
+        {"refused_outputs_of_the_short_function", refused_outputs_of_the_short_function},
         {"vectors_of_the_mac", vectors_of_the_mac},
         {"every_body_length_at_every_offset", every_body_length_at_every_offset},
         {"a_bit_damaged_anywhere", a_bit_damaged_anywhere},
-        {"refusals_of_frames", refusals_of_frames},
+        {"refused_keys_of_frames", refused_keys_of_frames},
+        {"frames_with_no_room_for_the_tag", frames_with_no_room_for_the_tag},
         {"huge_body_numbers", huge_body_numbers},
         {"a_long_body", a_long_body},
     };
@@ -251,10 +257,10 @@ int main(int argc, char **argv) {
     }
     vectors = argv[1];
     for (size_t i = 0; i < sizeof tests / sizeof *tests; i++) {
-        failures = 0;
+        wrong = 0;
         tests[i].run();
-        printf("test %s ... %s\n", tests[i].name, failures ? "FAILED" : "ok");
-        if (failures) failed++;
+        printf("test %s ... %s\n", tests[i].name, wrong ? "FAILED" : "ok");
+        if (wrong) failed++;
         else passed++;
     }
     printf("%d passed, %d failed\n", passed, failed);

@@ -7,9 +7,9 @@ fn is_reference(text: &str) -> bool {
     text.chars().all(sign) && text.chars().any(char::is_alphabetic)
 }
 
-/// What a document names that does not exist.
+/// What a document names that does not exist. What lies in `target/` need not: a clean clone has none of it.
 fn missing<'a>(names: &Names, text: &'a str) -> Vec<&'a str> {
-    let known = |t: &str| exists(t) || names.has(t);
+    let known = |t: &str| t.starts_with("target/") || exists(t) || names.has(t);
     quoted(text)
         .into_iter()
         .filter(|t| is_reference(t) && !known(t))

@@ -1,66 +1,19 @@
 //! The proved functions that C can call, as safe functions of Rust.
 
+// A line each, as the headers have them: bench.h and sign.h in include/.
+#[rustfmt::skip]
 extern "C" {
     fn bench_permute_row(row: *mut u64, length: usize) -> u32;
     fn bench_permute_chain(x0: u64, times: u64) -> u64;
-    fn bench_sponge(
-        key: *const u8,
-        key_length: usize,
-        message: *const u8,
-        message_length: usize,
-        out: *mut u8,
-        out_length: usize,
-        mode: u32,
-        cut: usize,
-        first: usize,
-    ) -> u64;
-    fn bench_tag(
-        key: *const u8,
-        key_length: usize,
-        message: *const u8,
-        message_length: usize,
-        tag: *const u8,
-        tag_length: usize,
-    ) -> u32;
-    fn bench_seal_runs(
-        key: *const u8,
-        key_length: usize,
-        frame: *mut u8,
-        frame_length: usize,
-        body: usize,
-    ) -> u64;
-    fn bench_verify_runs(
-        key: *const u8,
-        key_length: usize,
-        frame: *const u8,
-        frame_length: usize,
-        body: usize,
-    ) -> u64;
+    fn bench_sponge(key: *const u8, key_length: usize, message: *const u8, message_length: usize, out: *mut u8, out_length: usize, mode: u32, cut: usize, first: usize) -> u64;
+    fn bench_tag(key: *const u8, key_length: usize, message: *const u8, message_length: usize, tag: *const u8, tag_length: usize) -> u32;
+    fn bench_seal_runs(key: *const u8, key_length: usize, frame: *mut u8, frame_length: usize, body: usize) -> u64;
+    fn bench_verify_runs(key: *const u8, key_length: usize, frame: *const u8, frame_length: usize, body: usize) -> u64;
     fn bench_feeds_by_value(ticket: u32, bytes: *const u8, length: usize, times: usize) -> u64;
     fn bench_feeds_in_place(ticket: u32, bytes: *const u8, length: usize, times: usize) -> u64;
-    fn ascon_prf_short(
-        key: *const u8,
-        key_length: usize,
-        message: *const u8,
-        message_length: usize,
-        out: *mut u8,
-        out_length: usize,
-        length: usize,
-    ) -> u32;
-    fn ascon_seal_frame(
-        key: *const u8,
-        key_length: usize,
-        frame: *mut u8,
-        frame_length: usize,
-        body: usize,
-    ) -> u32;
-    fn ascon_verify_frame(
-        key: *const u8,
-        key_length: usize,
-        frame: *const u8,
-        frame_length: usize,
-        body: usize,
-    ) -> u32;
+    fn ascon_prf_short(key: *const u8, key_length: usize, message: *const u8, message_length: usize, out: *mut u8, out_length: usize, length: usize) -> u32;
+    fn ascon_seal_frame(key: *const u8, key_length: usize, frame: *mut u8, frame_length: usize, body: usize) -> u32;
+    fn ascon_verify_frame(key: *const u8, key_length: usize, frame: *const u8, frame_length: usize, body: usize) -> u32;
 }
 
 /// Permutes a row of five words and gives 0; gives the refusal for any other row.

@@ -2,6 +2,7 @@
 use linked::{seal, seal_runs, verify, verify_runs};
 use reference::numbers::Numbers;
 use reference::{counting, mac, vectors, KEY};
+use std::ops::Range;
 
 const PASSES: u32 = 0;
 const FAILS: u32 = 255;
@@ -97,29 +98,44 @@ fn long_bodies() {
     }
 }
 
-#[test]
-fn a_bit_damaged_anywhere_fails() {
-    for body in (0..=80).chain([300]) {
+/// Bodies of many lengths in sealed frames, with five bytes after the tag.
+fn sealed_frames() -> impl Iterator<Item = (usize, Vec<u8>)> {
+    (0..=80).chain([300]).map(|body| {
         let mut frame = counting(body + 16 + 5);
         assert_eq!(seal(&KEY, &mut frame, body), 0);
-        for bit in 0..8 * (body + 16) {
-            frame[bit / 8] ^= 1 << (bit % 8);
-            assert_eq!(
-                verify(&KEY, &frame, body),
-                FAILS,
-                "body of {body}, bit {bit}"
-            );
-            frame[bit / 8] ^= 1 << (bit % 8);
-        }
-        // What stands after the tag is not part of the frame's content.
-        for bit in 8 * (body + 16)..8 * (body + 16 + 5) {
-            frame[bit / 8] ^= 1 << (bit % 8);
-            assert_eq!(
-                verify(&KEY, &frame, body),
-                PASSES,
-                "body of {body}, bit {bit}"
-            );
-        }
+        (body, frame)
+    })
+}
+
+/// Holds the verdict of a frame with any one of some bits changed.
+fn assert_verdict(frame: &[u8], body: usize, bits: Range<usize>, verdict: u32) {
+    let mut frame = frame.to_vec();
+    for bit in bits {
+        frame[bit / 8] ^= 1 << (bit % 8);
+        let given = format!("body of {body}, bit {bit}");
+        assert_eq!(verify(&KEY, &frame, body), verdict, "{given}");
+        frame[bit / 8] ^= 1 << (bit % 8);
+    }
+}
+
+#[test]
+fn a_bit_damaged_anywhere_fails() {
+    for (body, frame) in sealed_frames() {
+        assert_verdict(&frame, body, 0..8 * (body + 16), FAILS);
+    }
+}
+
+/// What stands after the tag is not part of the frame's content.
+#[test]
+fn a_bit_changed_after_the_tag_passes() {
+    for (body, frame) in sealed_frames() {
+        assert_verdict(&frame, body, 8 * (body + 16)..8 * frame.len(), PASSES);
+    }
+}
+
+#[test]
+fn a_key_with_a_bit_changed_fails() {
+    for (body, frame) in sealed_frames() {
         for bit in 0..128 {
             let mut key = KEY;
             key[bit / 8] ^= 1 << (bit % 8);

@@ -1,7 +1,7 @@
 //! The linked permutation against the printed state, the outside vectors and the reference, and its refusals.
 use linked::{permute_chain, permute_row};
 use reference::numbers::Numbers;
-use reference::{assert_vectors, permute, HASH};
+use reference::{assert_vectors, permute, vectors, HASH};
 
 /// Permutes a state by the linked function.
 fn permute_linked(state: &mut [u64; 5]) {
@@ -31,7 +31,7 @@ fn the_hash_state_after_its_first_run() {
 
 #[test]
 fn the_vectors() {
-    assert_vectors(permute_linked);
+    assert_vectors(permute_linked, &vectors());
 }
 
 #[test]

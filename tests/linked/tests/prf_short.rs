@@ -100,6 +100,10 @@ fn other_output_lengths_are_refused_with_6() {
         assert_refused(6, 16, 4, length.min(300), length);
         assert_refused(6, 16, 4, 8, length);
     }
+}
+
+#[test]
+fn buffers_of_another_length_are_refused_with_6() {
     for out in 0..=20 {
         for length in (0..=20).filter(|n| *n != out) {
             assert_refused(6, 16, 4, out, length);

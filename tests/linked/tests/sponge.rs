@@ -203,7 +203,7 @@ fn tags_of_every_length() {
 }
 
 #[test]
-fn damaged_tags_messages_and_keys() {
+fn damaged_tags_and_keys() {
     let message = counting(45);
     let (mac, _) = expected(&MAC, &KEY, &message, 16);
     assert_eq!(tag(&KEY, &message, &mac), 1);
@@ -215,6 +215,12 @@ fn damaged_tags_messages_and_keys() {
         key[bit / 8] ^= 1 << (bit % 8);
         assert_eq!(tag(&key, &message, &mac), 0, "bit {bit} of the key");
     }
+}
+
+#[test]
+fn damaged_messages() {
+    let message = counting(45);
+    let (mac, _) = expected(&MAC, &KEY, &message, 16);
     for bit in 0..45 * 8 {
         let mut damaged = message.clone();
         damaged[bit / 8] ^= 1 << (bit % 8);

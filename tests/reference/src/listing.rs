@@ -38,6 +38,12 @@ impl<'a> Words<'a> {
     fn expect(&mut self, word: &str) {
         assert_eq!(self.word(), word);
     }
+
+    /// A number that stands after its name.
+    fn field<T: std::str::FromStr>(&mut self, name: &str) -> T {
+        self.expect(name);
+        self.number()
+    }
 }
 
 /// A line of a list: a new hub, the bytes that feeds go on to call `message`, the same feed many times, or a call and its answer.
@@ -50,10 +56,23 @@ pub enum Line {
 
 pub fn parse(line: &str, message: &[u8]) -> Line {
     let mut words = Words(line);
-    let call = match words.word() {
-        "empty" => return Line::Empty,
-        "message" => return Line::Message(words.bytes()),
-        "often" => return Line::Often(words.number(), words.number(), words.bytes()),
+    match words.word() {
+        "empty" => Line::Empty,
+        "message" => Line::Message(words.bytes()),
+        "often" => Line::Often(words.number(), words.number(), words.bytes()),
+        name => {
+            let call = parse_call(name, &mut words, message);
+            words.expect("=");
+            let answer = parse_answer(&call, &mut words);
+            assert_eq!(words.0, "");
+            Line::Call(call, answer)
+        }
+    }
+}
+
+/// The call of a name, by the words after it.
+fn parse_call(name: &str, words: &mut Words, message: &[u8]) -> Call {
+    match name {
         "open" => Call::Open {
             mode: words.number(),
             key: words.bytes(),
@@ -77,38 +96,23 @@ pub fn parse(line: &str, message: &[u8]) -> Line {
         },
         "sum" => Call::Sum,
         other => panic!("no call: {other}"),
-    };
-    words.expect("=");
-    words.expect("refusal");
-    let refusal = words.number();
-    words.expect("ticket");
-    let ticket = words.number();
-    words.expect("runs");
-    let runs = words.number();
-    words.expect("passed");
-    let passed = match words.number::<u8>() {
-        0 => false,
-        1 => true,
-        other => panic!("no verdict: {other}"),
-    };
-    words.expect("sum");
-    let sum = words.number();
-    let buffer = match call {
-        Call::Draw { .. } => Some(words.bytes()),
-        _ => None,
-    };
-    assert_eq!(words.0, "");
-    Line::Call(
-        call,
-        Answer {
-            refusal,
-            ticket,
-            runs,
-            passed,
-            sum,
-            buffer,
+    }
+}
+
+/// All fields of an answer; after a draw the buffer, too.
+fn parse_answer(call: &Call, words: &mut Words) -> Answer {
+    Answer {
+        refusal: words.field("refusal"),
+        ticket: words.field("ticket"),
+        runs: words.field("runs"),
+        passed: match words.field("passed") {
+            0u8 => false,
+            1 => true,
+            other => panic!("no verdict: {other}"),
         },
-    )
+        sum: words.field("sum"),
+        buffer: matches!(call, Call::Draw { .. }).then(|| words.bytes()),
+    }
 }
 
 /// Works all lines out anew: the calls that were not answered as the plain machine answers them, by line.
@@ -121,13 +125,8 @@ pub fn wrong(text: &str) -> Vec<(usize, Answer)> {
             Line::Empty => machine = Machine::default(),
             Line::Message(bytes) => message = bytes,
             Line::Often(ticket, times, bytes) => {
-                for _ in 0..times {
-                    let answer = machine.call(&Call::Feed {
-                        ticket,
-                        bytes: bytes.clone(),
-                    });
-                    assert_eq!(answer.refusal, 0);
-                }
+                let feed = Call::Feed { ticket, bytes };
+                (0..times).for_each(|_| assert_eq!(machine.call(&feed).refusal, 0));
             }
             Line::Call(call, printed) => {
                 let right = machine.call(&call);
@@ -143,21 +142,17 @@ pub fn wrong(text: &str) -> Vec<(usize, Answer)> {
 /// A line with one number of its answer changed: a field's, or a byte of the buffer that a draw gave back.
 fn changed(line: &str, field: &str) -> Option<String> {
     let (call, answer) = line.split_once(" = ")?;
-    let (before, rest) = match field {
-        "buffer" => answer.split_once("[ ").or(answer.split_once('['))?,
-        _ => answer.split_once(&format!("{field} "))?,
+    let opening = match field {
+        "buffer" => "[".to_string(),
+        _ => format!("{field} "),
     };
+    let (before, rest) = answer.split_once(&opening)?;
     let end = rest.find([' ', ']']).unwrap_or(rest.len());
     let number: u64 = rest[..end].parse().ok()?;
     let other = match field {
         "passed" => 1 - number,
         "buffer" => number ^ 1,
         _ => number + 1,
-    };
-    let opening = if field == "buffer" {
-        "[".to_string()
-    } else {
-        format!("{field} ")
     };
     Some(format!("{call} = {before}{opening}{other}{}", &rest[end..]))
 }

@@ -58,6 +58,20 @@ pub struct Machine {
 pub const MOST_FED: usize = 16_777_216;
 
 impl Entry {
+    fn new(mode: &'static Mode, key: &[u8]) -> Entry {
+        let mut padded = [0; 16];
+        padded[..key.len()].copy_from_slice(key);
+        Entry {
+            open: true,
+            mode,
+            key: padded,
+            fed: Vec::new(),
+            feeding: true,
+            drawn: 0,
+            output: Vec::new(),
+        }
+    }
+
     /// So many first bytes of the output, once feeding has ended. They are kept, as they stay the same; where more are asked for, all are worked out anew, and up to twice as many, or as many as
     /// cost little beside a long message: so a long output can be drawn in many small parts.
     fn output(&mut self, length: usize) -> &[u8] {
@@ -71,6 +85,64 @@ impl Entry {
     fn runs(&self) -> u64 {
         let drawn = (!self.feeding).then_some(self.drawn);
         self.mode.runs(self.fed.len(), drawn)
+    }
+
+    /// What an accepted call answers of itself: the run count.
+    fn accepted(&self) -> Answer {
+        Answer {
+            runs: self.runs(),
+            ..Answer::default()
+        }
+    }
+
+    fn feed(&mut self, bytes: &[u8]) -> Result<Answer, u32> {
+        if !self.feeding {
+            return Err(15);
+        }
+        if self.fed.len() + bytes.len() > MOST_FED {
+            return Err(16);
+        }
+        self.fed.extend_from_slice(bytes);
+        Ok(self.accepted())
+    }
+
+    fn draw(&mut self, buffer: &[u8], place: u64, count: u64) -> Result<Answer, u32> {
+        if u128::from(place) + u128::from(count) > buffer.len() as u128 {
+            return Err(3);
+        }
+        if self.drawn as u128 + u128::from(count) > self.mode.most_drawn as u128 {
+            return Err(17);
+        }
+        let (place, count, before) = (place as usize, count as usize, self.drawn);
+        self.feeding = false;
+        self.drawn += count;
+        let mut after = buffer.to_vec();
+        if count > 0 {
+            after[place..place + count].copy_from_slice(&self.output(self.drawn)[before..]);
+        }
+        Ok(Answer {
+            buffer: Some(after),
+            ..self.accepted()
+        })
+    }
+
+    fn check(&mut self, tag: &[u8]) -> Result<Answer, u32> {
+        if self.mode.number != 2 {
+            return Err(18);
+        }
+        if !(8..=16).contains(&tag.len()) {
+            return Err(4);
+        }
+        self.feeding = false;
+        Ok(Answer {
+            passed: self.output(tag.len()) == tag,
+            ..self.accepted()
+        })
+    }
+
+    fn close(&mut self) -> Answer {
+        self.open = false;
+        self.accepted()
     }
 }
 
@@ -88,6 +160,23 @@ impl Machine {
         })
     }
 
+    /// The answer to a call that no check refuses, or the number of the first that does.
+    fn accept(&mut self, call: &Call) -> Result<Answer, u32> {
+        match call {
+            Call::Open { mode, key } => self.open(*mode, key),
+            Call::Feed { ticket, bytes } => self.entry(*ticket)?.feed(bytes),
+            Call::Draw {
+                ticket,
+                buffer,
+                place,
+                count,
+            } => self.entry(*ticket)?.draw(buffer, *place, *count),
+            Call::Check { ticket, tag } => self.entry(*ticket)?.check(tag),
+            Call::Close { ticket } => Ok(self.entry(*ticket)?.close()),
+            Call::Sum => Ok(self.sum()),
+        }
+    }
+
     /// The entry of an open ticket, or 11 or 12.
     fn entry(&mut self, ticket: u32) -> Result<&mut Entry, u32> {
         let place = (ticket as usize).checked_sub(1).ok_or(11u32)?;
@@ -99,89 +188,30 @@ impl Machine {
         }
     }
 
-    fn accept(&mut self, call: &Call) -> Result<Answer, u32> {
-        let mut answer = Answer::default();
-        match call {
-            Call::Open { mode, key } => {
-                let mode = *MODES.iter().find(|m| m.number == *mode).ok_or(1u32)?;
-                if key.len() != if mode.keyed { 16 } else { 0 } {
-                    return Err(2);
-                }
-                if self.entries.len() == 4_294_967_295 {
-                    return Err(14);
-                }
-                if self.entries.iter().filter(|e| e.open).count() == 16 {
-                    return Err(13);
-                }
-                let mut padded = [0; 16];
-                padded[..key.len()].copy_from_slice(key);
-                self.entries.push(Entry {
-                    open: true,
-                    mode,
-                    key: padded,
-                    fed: Vec::new(),
-                    feeding: true,
-                    drawn: 0,
-                    output: Vec::new(),
-                });
-                answer.ticket = self.entries.len() as u32;
-                answer.runs = self.entries.last().unwrap().runs();
-            }
-            Call::Feed { ticket, bytes } => {
-                let entry = self.entry(*ticket)?;
-                if !entry.feeding {
-                    return Err(15);
-                }
-                if entry.fed.len() + bytes.len() > MOST_FED {
-                    return Err(16);
-                }
-                entry.fed.extend_from_slice(bytes);
-                answer.runs = entry.runs();
-            }
-            Call::Draw {
-                ticket,
-                buffer,
-                place,
-                count,
-            } => {
-                let entry = self.entry(*ticket)?;
-                if *place as u128 + *count as u128 > buffer.len() as u128 {
-                    return Err(3);
-                }
-                if entry.drawn as u128 + *count as u128 > entry.mode.most_drawn as u128 {
-                    return Err(17);
-                }
-                let (place, count) = (*place as usize, *count as usize);
-                let before = entry.drawn;
-                entry.feeding = false;
-                entry.drawn += count;
-                let mut after = buffer.clone();
-                if count > 0 {
-                    after[place..place + count]
-                        .copy_from_slice(&entry.output(before + count)[before..]);
-                }
-                answer.buffer = Some(after);
-                answer.runs = entry.runs();
-            }
-            Call::Check { ticket, tag } => {
-                let entry = self.entry(*ticket)?;
-                if entry.mode.number != 2 {
-                    return Err(18);
-                }
-                if !(8..=16).contains(&tag.len()) {
-                    return Err(4);
-                }
-                entry.feeding = false;
-                answer.passed = entry.output(tag.len()) == *tag;
-                answer.runs = entry.runs();
-            }
-            Call::Close { ticket } => {
-                let entry = self.entry(*ticket)?;
-                entry.open = false;
-                answer.runs = entry.runs();
-            }
-            Call::Sum => answer.sum = self.entries.iter().map(Entry::runs).sum(),
+    fn open(&mut self, mode: u32, key: &[u8]) -> Result<Answer, u32> {
+        let mode = *MODES.iter().find(|m| m.number == mode).ok_or(1u32)?;
+        if key.len() != if mode.keyed { 16 } else { 0 } {
+            return Err(2);
         }
-        Ok(answer)
+        if self.entries.len() == 4_294_967_295 {
+            return Err(14);
+        }
+        if self.entries.iter().filter(|e| e.open).count() == 16 {
+            return Err(13);
+        }
+        let entry = Entry::new(mode, key);
+        let answer = entry.accepted();
+        self.entries.push(entry);
+        Ok(Answer {
+            ticket: self.entries.len() as u32,
+            ..answer
+        })
+    }
+
+    fn sum(&self) -> Answer {
+        Answer {
+            sum: self.entries.iter().map(Entry::runs).sum(),
+            ..Answer::default()
+        }
     }
 }

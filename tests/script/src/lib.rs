@@ -9,7 +9,15 @@ use std::thread;
 use std::time::{Duration, Instant};
 
 pub mod coverage;
+pub mod malformed;
 pub mod random;
+
+/// The line of names, with which every script begins.
+pub const NAMES: &[u8] = b"call number bytes\n";
+
+/// Opens under the key 00 01 .. 0f.
+pub const OPEN_PRF: &str = "open 1 000102030405060708090a0b0c0d0e0f";
+pub const OPEN_MAC: &str = "open 2 000102030405060708090a0b0c0d0e0f";
 
 /// A program that has not ended by then is killed, and its test fails: after twenty seconds, or as many as the variable SCRIPT_LIMIT says.
 fn limit() -> Duration {
@@ -188,7 +196,7 @@ impl Default for Talk {
     /// Both lines of names.
     fn default() -> Talk {
         Talk {
-            script: b"call number bytes\n".to_vec(),
+            script: NAMES.to_vec(),
             expected: b"answer number bytes\n".to_vec(),
         }
     }

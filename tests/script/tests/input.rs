@@ -1,19 +1,17 @@
-//! How input comes and output goes: in pieces, across the cuts between reads, in turns, and with errors.
+//! How input comes and output goes: in pieces, across the cuts between reads, and in turns.
 use reference::numbers::Numbers;
 use script::random::day;
-use script::{assert_same, ends, from_a_file, in_time, printed, program, start, through_a_pipe};
-use std::fs::{File, OpenOptions};
-use std::io::{BufRead, BufReader, Read, Write};
-use std::os::fd::OwnedFd;
-use std::os::unix::net::UnixStream;
-use std::process::{Command, Stdio};
+use script::{
+    assert_same, ends, from_a_file, in_time, printed, program, start, through_a_pipe, NAMES,
+    OPEN_MAC, OPEN_PRF,
+};
+use std::io::{BufRead, BufReader, Write};
+use std::process::Stdio;
 use std::thread::sleep;
 use std::time::Duration;
 
 /// What one read asks for at most.
 const CHUNK: usize = 65_536;
-
-const NAMES: &[u8] = b"call number bytes\n";
 
 /// A script from a file, where the cuts are at multiples of the chunk, and through a pipe, where they lie anywhere.
 fn assert_both(script: &[u8]) {
@@ -35,17 +33,14 @@ fn moved(line: &str, refused: usize) -> Vec<u8> {
     .concat()
 }
 
-/// 11 and the length of the line have no common divisor, so every place in the line comes to lie at the cut.
+/// 11 and the lengths of these lines, 72 and 8, have no common divisor, so that every place in a line comes to lie at the cut.
 #[test]
 fn lines_across_every_cut() {
-    let line = "feed 2 00112233445566778899aabbccddeeff00112233445566778899aabbccddeeff\n";
-    assert_eq!(line.len(), 72);
-    for refused in 0..72 {
-        assert_both(&moved(line, refused));
-    }
-    let line = "sum 0 -\n";
-    for refused in 0..8 {
-        assert_both(&moved(line, refused));
+    let feed = "feed 2 00112233445566778899aabbccddeeff00112233445566778899aabbccddeeff\n";
+    for line in [feed, "sum 0 -\n"] {
+        for refused in 0..line.len() {
+            assert_both(&moved(line, refused));
+        }
     }
 }
 
@@ -105,21 +100,17 @@ fn overlong_lines_at_a_cut() {
 
 #[test]
 fn output_longer_than_a_buffer() {
-    let mut script = [
-        NAMES,
-        b"open 4 -\nopen 1 000102030405060708090a0b0c0d0e0f\n",
-    ]
-    .concat();
-    for i in 0..600 {
-        script.extend(format!("draw {} 0400\n", 1 + i % 2).bytes());
-    }
-    assert_both(&script);
-    // Answers of many lengths, so that the buffer is full at many places of a line.
+    let draws = "draw 1 0400\ndraw 2 0400\n".repeat(300);
+    let lines = format!("open 4 -\n{OPEN_PRF}\n{draws}");
+    assert_both(&[NAMES, lines.as_bytes()].concat());
+}
+
+/// Answers of many lengths, so that the buffer is full at many places of a line.
+#[test]
+fn output_of_uneven_lines() {
     for count in [1, 2, 3, 5, 8, 100, 1_000, 1_021] {
-        let mut script = [NAMES, b"open 4 -\n"].concat();
-        let lines = format!("draw 1 {count:04x}\nsum 0 -\n").repeat(300_000 / (2 * count + 20));
-        script.extend(lines.bytes());
-        assert_both(&script);
+        let draws = format!("draw 1 {count:04x}\nsum 0 -\n").repeat(300_000 / (2 * count + 20));
+        assert_both(&[NAMES, b"open 4 -\n", draws.as_bytes()].concat());
     }
 }
 
@@ -206,7 +197,7 @@ fn converse(turns: Vec<(&str, Vec<&str>)>) {
 fn in_turns() {
     converse(vec![
         ("call number bytes\n", vec!["answer number bytes"]),
-        ("open 2 000102030405060708090a0b0c0d0e0f\n", vec!["ok 1 -"]),
+        (&format!("{OPEN_MAC}\n"), vec!["ok 1 -"]),
         (
             "check 1 eb1af688825d66bf2d53e135f9323315\n",
             vec!["pass 2 -"],
@@ -228,119 +219,4 @@ fn the_byte_that_is_one_too_many() {
         (&"x".repeat(2_100), vec![]),
         ("x", vec!["stop 2 -"]),
     ]);
-}
-
-/// A script whose output is larger than any buffer.
-fn long_script() -> Vec<u8> {
-    [NAMES, "sum 0 -\n".repeat(100_000).as_bytes()].concat()
-}
-
-/// Writes all of a script that may not be read to its end.
-fn write(script: Vec<u8>) -> impl FnOnce(&mut dyn Write) + Send + 'static {
-    move |stdin| {
-        let _ = stdin.write_all(&script);
-    }
-}
-
-/// Starts the program by a line of the shell, in which it is "$0".
-fn by_shell(line: &str) -> Command {
-    let mut command = Command::new("sh");
-    command.arg("-c").arg(line).arg(program());
-    command
-}
-
-#[test]
-fn output_that_is_full() {
-    for script in [NAMES.to_vec(), b"x".to_vec(), Vec::new(), long_script()] {
-        let full = OpenOptions::new().write(true).open("/dev/full").unwrap();
-        let mut command = Command::new(program());
-        let child = command.stdin(Stdio::piped()).stdout(full).spawn().unwrap();
-        assert!(printed(child, write(script)).is_empty());
-    }
-}
-
-#[test]
-fn output_that_is_closed() {
-    for script in [NAMES.to_vec(), b"x".to_vec(), Vec::new(), long_script()] {
-        let mut command = by_shell("exec \"$0\" >&-");
-        let child = command.stdin(Stdio::piped()).spawn().unwrap();
-        assert!(printed(child, write(script)).is_empty());
-    }
-}
-
-/// The reader goes away after the first answers; a broken pipe ends the program by a signal, or by an error where the signal is ignored.
-#[test]
-fn output_that_nobody_reads() {
-    for line in ["exec \"$0\"", "trap '' PIPE; exec \"$0\""] {
-        let mut command = by_shell(line);
-        let mut child = command
-            .stdin(Stdio::piped())
-            .stdout(Stdio::piped())
-            .spawn()
-            .unwrap();
-        let mut stdout = child.stdout.take().unwrap();
-        let mut stdin = child.stdin.take().unwrap();
-        let stdin = in_time(&mut child, move || {
-            let mut first = [0; 20];
-            stdin.write_all(NAMES).unwrap();
-            stdout.read_exact(&mut first).expect("the first line");
-            assert_eq!(&first, b"answer number bytes\n");
-            stdin
-        });
-        child.stdin = Some(stdin);
-        printed(child, write(long_script()));
-    }
-}
-
-#[test]
-fn input_that_is_closed() {
-    let mut command = by_shell("exec \"$0\" <&-");
-    let child = command.stdout(Stdio::piped()).spawn().unwrap();
-    assert_eq!(printed(child, |_| ()), b"answer number bytes\n");
-}
-
-#[test]
-fn input_that_is_a_folder() {
-    let child = start(&program(), File::open("/").unwrap().into());
-    assert_eq!(printed(child, |_| ()), b"answer number bytes\n");
-}
-
-#[test]
-fn no_input() {
-    let child = start(&program(), Stdio::null());
-    assert_eq!(printed(child, |_| ()), b"answer number bytes\nstop 1 -\n");
-}
-
-/// What is printed where reading fails after a script: a socket whose other end is closed with a byte unread is reset.
-fn with_a_failed_read(script: &[u8]) -> Vec<u8> {
-    let (mut ours, theirs) = UnixStream::pair().unwrap();
-    (&theirs).write_all(b"x").unwrap();
-    ours.write_all(script).unwrap();
-    drop(ours);
-    printed(start(&program(), OwnedFd::from(theirs).into()), |_| ())
-}
-
-/// A line that was cut off by an error is not run, and no line number is told; all before it was answered.
-#[test]
-fn input_that_fails() {
-    let cases = [
-        ("", ""),
-        ("call number bytes", ""),
-        ("call number bytes\n", ""),
-        ("call number bytes\nopen 3 -\nsum 0 -\n", "ok 1 -\nok 1 -\n"),
-        ("call number bytes\nopen 3 -\nsum 0 -", "ok 1 -\n"),
-        ("call number bytes\nopen 3 -\nsum 0", "ok 1 -\n"),
-        (
-            "call number bytes\nopen 3 -\nsum\nsum 0 -",
-            "ok 1 -\nstop 3 -\n",
-        ),
-    ];
-    for (script, rest) in cases {
-        let expected = format!("answer number bytes\n{rest}");
-        assert_same(
-            script.as_bytes(),
-            &with_a_failed_read(script.as_bytes()),
-            expected.as_bytes(),
-        );
-    }
 }

@@ -25,31 +25,35 @@ fn the_longest_well_formed_line() {
 }
 
 /// Lines with a well-formed one at their beginning, or at their end, where a program that starts anew with a full buffer would find it.
+fn lengthened(well: &str, length: usize) -> [String; 4] {
+    let fill = length - well.len();
+    [
+        format!("{well}{}", "0".repeat(fill)),
+        format!("{well}{}", " ".repeat(fill)),
+        format!("{}{well}", "x".repeat(fill)),
+        format!("{} {well}", "x".repeat(fill - 1)),
+    ]
+}
+
 #[test]
 fn lines_about_2100_bytes() {
     let lengths = [
         2_066, 2_099, 2_100, 2_101, 2_102, 2_107, 2_108, 4_200, 4_207, 6_307,
     ];
-    for length in lengths {
-        for well in ["sum 0 -", "call number bytes"] {
-            let fill = length - well.len();
-            for line in [
-                format!("{well}{}", "0".repeat(fill)),
-                format!("{well}{}", " ".repeat(fill)),
-                format!("{}{well}", "x".repeat(fill)),
-                format!("{} {well}", "x".repeat(fill - 1)),
-            ] {
-                assert_eq!(line.len(), length);
-                for rest in [
-                    "",
-                    "\n",
-                    "\nsum 0 -",
-                    "\nsum 0 -\n",
-                    "\ncall number bytes\nsum 0 -\n",
-                ] {
-                    assert_stops("", &line, rest);
-                }
-            }
+    let rests = [
+        "",
+        "\n",
+        "\nsum 0 -",
+        "\nsum 0 -\n",
+        "\ncall number bytes\nsum 0 -\n",
+    ];
+    let of_length = |length| {
+        let well = ["sum 0 -", "call number bytes"];
+        well.map(|well| lengthened(well, length)).concat()
+    };
+    for line in lengths.map(of_length).concat() {
+        for rest in rests {
+            assert_stops("", &line, rest);
         }
     }
 }

@@ -1,0 +1,175 @@
+//! The four modes over one sponge, and the short function.
+use crate::permute;
+
+/// A mode of document 01, by its number: the start word, both rates and the most drawn in bytes, and whether it takes a key and flips a bit before the last block's run.
+pub struct Mode {
+    pub number: u32,
+    pub start: u64,
+    pub feed_rate: usize,
+    pub draw_rate: usize,
+    pub most_drawn: usize,
+    pub keyed: bool,
+}
+
+/// ASCON-PRF, source document 003, table 2 and its start value for output of any length.
+pub const PRF: Mode = Mode {
+    number: 1,
+    start: 0x80808c0000000000,
+    feed_rate: 32,
+    draw_rate: 16,
+    most_drawn: 1_048_576,
+    keyed: true,
+};
+
+/// ASCON-MAC, the same with 128 bits of output.
+pub const MAC: Mode = Mode {
+    number: 2,
+    start: 0x80808c0000000080,
+    most_drawn: 16,
+    ..PRF
+};
+
+/// ASCON-HASH, source document 004's table of start values.
+pub const HASH: Mode = Mode {
+    number: 3,
+    start: 0x00400c0000000100,
+    feed_rate: 8,
+    draw_rate: 8,
+    most_drawn: 32,
+    keyed: false,
+};
+
+/// ASCON-XOF, the same with output of any length.
+pub const XOF: Mode = Mode {
+    number: 4,
+    start: 0x00400c0000000000,
+    most_drawn: 1_048_576,
+    ..HASH
+};
+
+pub const MODES: [&Mode; 4] = [&PRF, &MAC, &HASH, &XOF];
+
+impl Mode {
+    /// What an open names: the key, or nothing where the mode takes none.
+    pub fn given<'a>(&self, key: &'a [u8]) -> &'a [u8] {
+        if self.keyed {
+            key
+        } else {
+            &[]
+        }
+    }
+
+    /// Document 01's formula for the run count: with so many bytes fed and, once feeding has ended, so many drawn.
+    pub fn runs(&self, fed: usize, drawn: Option<usize>) -> u64 {
+        let after = drawn.map_or(0, |d| d.div_ceil(self.draw_rate).max(1));
+        (fed / self.feed_rate + 1 + after) as u64
+    }
+}
+
+/// The output of a mode for a message, and how many times the state was permuted, over any permutation of five words: so vectors try the one handed in.
+pub fn sponge(
+    permute: impl Fn(&mut [u64; 5]),
+    mode: &Mode,
+    key: &[u8; 16],
+    message: &[u8],
+    length: usize,
+) -> (Vec<u8>, u64) {
+    let mut sponge = Sponge::begin(permute, mode, key);
+    sponge.absorb(mode, message);
+    let output = sponge.squeeze(mode, length);
+    (output, sponge.runs)
+}
+
+/// The state as forty bytes, and how many times it was permuted.
+struct Sponge<P> {
+    permute: P,
+    state: [u8; 40],
+    runs: u64,
+}
+
+impl<P: Fn(&mut [u64; 5])> Sponge<P> {
+    fn begin(permute: P, mode: &Mode, key: &[u8; 16]) -> Sponge<P> {
+        let key = mode.given(key);
+        let mut state = [0; 40];
+        state[..8].copy_from_slice(&mode.start.to_be_bytes());
+        state[8..8 + key.len()].copy_from_slice(key);
+        let mut sponge = Sponge {
+            permute,
+            state,
+            runs: 0,
+        };
+        sponge.run();
+        sponge
+    }
+
+    fn run(&mut self) {
+        permute_bytes(&self.permute, &mut self.state);
+        self.runs += 1;
+    }
+
+    /// All of the message, padded.
+    fn absorb(&mut self, mode: &Mode, message: &[u8]) {
+        let mut padded = message.to_vec();
+        padded.push(0x80);
+        padded.resize(padded.len().next_multiple_of(mode.feed_rate), 0);
+        let last = padded.split_off(padded.len() - mode.feed_rate);
+        for block in padded.chunks(mode.feed_rate) {
+            self.add(block);
+            self.run();
+        }
+        self.add(&last);
+        self.state[39] ^= u8::from(mode.keyed);
+        self.run();
+    }
+
+    /// A block, added to the first bytes of the state.
+    fn add(&mut self, block: &[u8]) {
+        for (byte, fed) in self.state.iter_mut().zip(block) {
+            *byte ^= fed;
+        }
+    }
+
+    fn squeeze(&mut self, mode: &Mode, length: usize) -> Vec<u8> {
+        let mut output = self.state[..mode.draw_rate].to_vec();
+        while output.len() < length {
+            self.run();
+            output.extend_from_slice(&self.state[..mode.draw_rate]);
+        }
+        output.truncate(length);
+        output
+    }
+}
+
+/// The state as forty bytes, permuted.
+fn permute_bytes(permute: impl Fn(&mut [u64; 5]), state: &mut [u8; 40]) {
+    let mut words: [u64; 5] =
+        std::array::from_fn(|i| u64::from_be_bytes(state[8 * i..][..8].try_into().unwrap()));
+    permute(&mut words);
+    for (bytes, word) in state.chunks_mut(8).zip(words) {
+        bytes.copy_from_slice(&word.to_be_bytes());
+    }
+}
+
+/// The short function, source document 003, algorithm 3: an output of 1 to 16 bytes for a message of at most 16, over any permutation of five words.
+pub fn prf_short(
+    permute: impl Fn(&mut [u64; 5]),
+    key: &[u8; 16],
+    message: &[u8],
+    length: usize,
+) -> Vec<u8> {
+    let mut state = [0; 40];
+    state[0] = 128;
+    state[1] = 8 * message.len() as u8;
+    state[2] = 0x40 ^ 12;
+    state[3] = 8 * length as u8;
+    state[8..24].copy_from_slice(key);
+    state[24..24 + message.len()].copy_from_slice(message);
+    permute_bytes(permute, &mut state);
+    let ends = state[40 - length..].iter().zip(&key[16 - length..]);
+    ends.map(|(s, k)| s ^ k).collect()
+}
+
+/// The MAC of a message: the tag of a frame whose body it is.
+pub fn mac(key: &[u8; 16], message: &[u8]) -> Vec<u8> {
+    sponge(permute, &MAC, key, message, 16).0
+}
