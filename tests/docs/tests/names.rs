@@ -1,10 +1,11 @@
 //! What the documents name exists: files, definitions, laws, functions, tests and must-fail edits.
 use docs::{crates, exists, quoted, read, Names};
 
-/// A name or a path, and no piece of code: one word, of letters, digits and the signs that join them.
+/// A name or a path, and no piece of code: one word, of letters, digits and the signs that join them. What a build makes is there after it alone.
 fn is_reference(text: &str) -> bool {
     let sign = |c: char| c.is_alphanumeric() || "_-:/.′".contains(c);
-    text.chars().all(sign) && text.chars().any(char::is_alphabetic)
+    let built = text.starts_with("target/");
+    text.chars().all(sign) && text.chars().any(char::is_alphabetic) && !built
 }
 
 /// What a document names that does not exist.
