@@ -17,8 +17,8 @@ use Rattle.script.proofs.Pieces.{piece-room, piece-left, piece-clean, piece-end
 use Rattle.script.proofs.Answers.{answer-long}
 use Rattle.interpreter.specs.declared.Session.{Session}
 use Rattle.interpreter.specs.declared.line.Stepped.{Stepped}
-use Rattle.interpreter.specs.Script.{Meaning, theNames, aCall, aFault, meaning}
-use Rattle.interpreter.specs.Session.{stopped, stepBy, stepped, Reader, readerOf, Fed, afterStep, holding, byteStep, longestAnswer, filled}
+use Rattle.interpreter.specs.Script.{Meaning, namesLine, callLine, malformedLine, meaning}
+use Rattle.interpreter.specs.Session.{stopped, stepBy, stepped, Reader, readerOf, Consumed, afterStep, holding, byteStep, longestAnswer, filled}
 use Rattle.interpreter.specs.Promises.{Stepping, Advancing}
 use Rattle.interpreter.proofs.Steps.{newline-step, long-step}
 use Rattle.interpreter.proofs.Filling.{filled-byte}
@@ -31,9 +31,9 @@ unfolding stepped
 holding-step s k line = go (meaning (s .number) line)
   where
     go : (m : Meaning) → stepBy (holding s k) m ≡ stepBy s m
-    go theNames = refl
-    go (aCall c) = refl
-    go aFault = refl
+    go namesLine = refl
+    go (callLine c) = refl
+    go malformedLine = refl
 
 pub below : {a b : ℕ} → a ≤ b → (a ≡ b → ⊥) → a < b
 below {a} {b} h n = go (decLe b a)
@@ -110,13 +110,13 @@ module _ (s : Session) (line chunk : List ℕ) (at : ℕ) (out : List ℕ) (from
       next-byte = rw (add-one (at + n)) (drop-cons chunk (at + n) 0 more)
 
       -- it is taken too
-      then-byte : (b : ℕ) (f : Fed) → getD chunk (at + n) 0 ≡ b → byteStep after b ≡ f → (size : ℕ) (before : List ℕ) → length before + longestAnswer ≤ size
+      then-byte : (b : ℕ) (f : Consumed) → getD chunk (at + n) 0 ≡ b → byteStep after b ≡ f → (size : ℕ) (before : List ℕ) → length before + longestAnswer ≤ size
           → filled size (readerOf s line) before (drop at chunk) ≡ filled size (f .reader) (before ++ f .text) (drop (at + n + 1) chunk)
       then-byte b f e g size before room =
           moved size before room
           ∙ ap (filled size after before) (next-byte ∙ ap (λ (x : ℕ). x ∷ drop (at + n + 1) chunk) e)
           ∙ filled-byte size after before b (drop (at + n + 1) chunk) room
-          ∙ ap (λ (x : Fed). filled size (x .reader) (before ++ x .text) (drop (at + n + 1) chunk)) g
+          ∙ ap (λ (x : Consumed). filled size (x .reader) (before ++ x .text) (drop (at + n + 1) chunk)) g
 
       pub advance-line : (k : ℕ) (r : Stepped) (out′ : List ℕ) → getD chunk (at + n) 0 ≡ newline → k ≡ min (s .held + n) (length line′)
           → Stepping (stepped s (take k line′)) out from r out′

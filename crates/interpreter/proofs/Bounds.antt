@@ -12,31 +12,32 @@ use Rattle.checks.specs.Equality.{same}
 use Rattle.script.specs.Text.{newline}
 use Rattle.script.specs.Line.{longestLine, parse}
 use Rattle.interpreter.specs.declared.Session.{Session}
-use Rattle.interpreter.specs.Script.{Meaning, theNames, aCall, aFault, meaning, names, mostLines, asCall}
-use Rattle.interpreter.specs.Session.{begun, stepBy, stepped, stopped, Reader, Fed, silent, afterStep, hold, byteStep, fed}
-use Rattle.interpreter.specs.Theorems.{joined, fedAll, atFirst, mostInput, NotEmpty}
-use Rattle.interpreter.proofs.Feeding.{fed-joined, stopped-fed}
+use Rattle.interpreter.specs.Script.{Meaning, namesLine, callLine, malformedLine, meaning, names, mostLines, asCall}
+use Rattle.interpreter.specs.Session.{begun, stepBy, stepped, stopped, Reader, Consumed, silent, afterStep, hold, byteStep, consumed}
+use Rattle.checks.specs.Joined.{joined}
+use Rattle.interpreter.specs.Theorems.{consumedAll, atFirst, mostInput, NotEmpty}
+use Rattle.interpreter.proofs.Consuming.{consumed-joined, stopped-consumed}
 
 -- so many bytes may still be read
 pub left : Session → ℕ
 left s = 2101 * (1000001 - s .number) + (2101 - min (s .held) 2100)
 
 -- a line that is no fault is line 1, or stands before the last allowed one or in its place
-no-fault : (k : ℕ) (s : List ℕ) (m : Meaning) → meaning k s ≡ m → (m ≡ aFault → ⊥) → k ≤ mostLines
+no-fault : (k : ℕ) (s : List ℕ) (m : Meaning) → meaning k s ≡ m → (m ≡ malformedLine → ⊥) → k ≤ mostLines
 unfolding meaning
 no-fault k s m e n = go (eqb k 1) (leb k mostLines) refl refl e
   where
-    go : (t u : Bool) → eqb k 1 ≡ t → leb k mostLines ≡ u → cond t (cond (same s names) theNames aFault) (cond u (asCall (parse s)) aFault) ≡ m → k ≤ mostLines
+    go : (t u : Bool) → eqb k 1 ≡ t → leb k mostLines ≡ u → cond t (cond (same s names) namesLine malformedLine) (cond u (asCall (parse s)) malformedLine) ≡ m → k ≤ mostLines
     go true u p q e = omega (arith, eqb-true k 1 p)
     go false true p q e = leb-true k mostLines q
     go false false p q e = absurd (n (sym e))
 
 -- a line takes at least one byte of them
-line-left : (s : Session) (m : Meaning) → (m ≡ aFault → ⊥) → s .number ≤ mostLines → left (stepBy s m .session) + 1 ≤ left s
+line-left : (s : Session) (m : Meaning) → (m ≡ malformedLine → ⊥) → s .number ≤ mostLines → left (stepBy s m .session) + 1 ≤ left s
 unfolding left
-line-left s theNames n h = omega arith
-line-left s (aCall c) n h = omega arith
-line-left s aFault n h = absurd (n refl)
+line-left s namesLine n h = omega arith
+line-left s (callLine c) n h = omega arith
+line-left s malformedLine n h = absurd (n refl)
 
 not-going : {A : Type 0} → false ≡ true → A
 not-going e = absurd (false≢true e)
@@ -46,11 +47,11 @@ unfolding stepped
 step-left s line e = go (meaning (s .number) line) refl e
   where
     go : (m : Meaning) → meaning (s .number) line ≡ m → stepBy s m .session .going ≡ true → left (stepBy s m .session) + 1 ≤ left s
-    go theNames p q = line-left s theNames (λ z. let y : _≡_ {A = ℕ} 0 1 = cc in omega arith)
-        (no-fault (s .number) line theNames p (λ z. let y : _≡_ {A = ℕ} 0 1 = cc in omega arith))
-    go (aCall c) p q = line-left s (aCall c) (λ z. let y : _≡_ {A = ℕ} 0 1 = cc in omega arith)
-        (no-fault (s .number) line (aCall c) p (λ z. let y : _≡_ {A = ℕ} 0 1 = cc in omega arith))
-    go aFault p q = not-going q
+    go namesLine p q = line-left s namesLine (λ z. let y : _≡_ {A = ℕ} 0 1 = cc in omega arith)
+        (no-fault (s .number) line namesLine p (λ z. let y : _≡_ {A = ℕ} 0 1 = cc in omega arith))
+    go (callLine c) p q = line-left s (callLine c) (λ z. let y : _≡_ {A = ℕ} 0 1 = cc in omega arith)
+        (no-fault (s .number) line (callLine c) p (λ z. let y : _≡_ {A = ℕ} 0 1 = cc in omega arith))
+    go malformedLine p q = not-going q
 
 -- so does any byte
 byte-left : (r : Reader) (b : ℕ) → byteStep r b .reader .session .going ≡ true → left (byteStep r b .reader .session) + 1 ≤ left (r .session)
@@ -67,28 +68,27 @@ byte-left r b e = go (r .session .going) (eqb b newline) (ltb (r .session .held)
     go true false false p q e = not-going e
     go false u v p q e = not-going (sym p ∙ e)
 
-pub fed-left : (r : Reader) (s : List ℕ) → fed r s .reader .session .going ≡ true → left (fed r s .reader .session) + length s ≤ left (r .session)
-unfolding fed
-fed-left r [] e = omega arith
-fed-left r (b ∷ s) e = go (byteStep r b .reader .session .going) refl (fed-left (byteStep r b .reader) s e)
+pub consumed-left : (r : Reader) (s : List ℕ) → consumed r s .reader .session .going ≡ true → left (consumed r s .reader .session) + length s ≤ left (r .session)
+unfolding consumed
+consumed-left r [] e = omega arith
+consumed-left r (b ∷ s) e = go (byteStep r b .reader .session .going) refl (consumed-left (byteStep r b .reader) s e)
   where
     go : (t : Bool) → byteStep r b .reader .session .going ≡ t
-        → left (fed (byteStep r b .reader) s .reader .session) + length s ≤ left (byteStep r b .reader .session)
-        → left (fed (byteStep r b .reader) s .reader .session) + length (b ∷ s) ≤ left (r .session)
+        → left (consumed (byteStep r b .reader) s .reader .session) + length s ≤ left (byteStep r b .reader .session)
+        → left (consumed (byteStep r b .reader) s .reader .session) + length (b ∷ s) ≤ left (r .session)
     go true p h = omega (arith, byte-left r b p)
-    go false p h = not-going (sym (ap (λ (f : Fed). f .reader .session .going) (stopped-fed (byteStep r b .reader) s p) ∙ p) ∙ e)
+    go false p h = not-going (sym (ap (λ (f : Consumed). f .reader .session .going) (stopped-consumed (byteStep r b .reader) s p) ∙ p) ∙ e)
 
 -- ---- turns
 
 chunks-short : (chunks : List (List ℕ)) → NotEmpty chunks → length chunks ≤ length (joined chunks)
-unfolding joined
 chunks-short [] h = omega arith
 chunks-short (c ∷ cs) h = omega (arith, h .0, chunks-short cs (h .1), length-append c (joined cs))
 
-pub turns-enough : (line : List ℕ) (chunks : List (List ℕ)) → NotEmpty chunks → fedAll (atFirst line) chunks .reader .session .going ≡ true
+pub turns-enough : (line : List ℕ) (chunks : List (List ℕ)) → NotEmpty chunks → consumedAll (atFirst line) chunks .reader .session .going ≡ true
     → length chunks ≤ mostInput
 unfolding left begun
 turns-enough line chunks h e =
-    let f = fed-joined (atFirst line) chunks in
-    let g : fed (atFirst line) (joined chunks) .reader .session .going ≡ true = sym (ap (λ (x : Fed). x .reader .session .going) f) ∙ e in
-    omega (arith, fed-left (atFirst line) (joined chunks) g, chunks-short chunks h)
+    let f = consumed-joined (atFirst line) chunks in
+    let g : consumed (atFirst line) (joined chunks) .reader .session .going ≡ true = sym (ap (λ (x : Consumed). x .reader .session .going) f) ∙ e in
+    omega (arith, consumed-left (atFirst line) (joined chunks) g, chunks-short chunks h)

@@ -12,7 +12,7 @@ use Rattle.script.specs.Text.{Wrote, newline}
 use Rattle.interpreter.specs.declared.Session.{Session}
 use Rattle.interpreter.specs.declared.Progress.{Progress}
 use Rattle.interpreter.specs.declared.line.Stepped.{Stepped}
-use Rattle.interpreter.specs.Session.{readerOf, Fed, byteStep, fed, complete, finished, endOf, Filled, filled, filledFrom, progressOf}
+use Rattle.interpreter.specs.Session.{readerOf, Consumed, byteStep, consumed, complete, finished, endOf, Filled, filled, filledFrom, progressOf}
 
 -- ---- the beginning
 
@@ -24,7 +24,7 @@ wrote-first out text last next h w = (omega (arith, w .place), w .bytes ∙ sets
 -- ---- the end
 
 module _ (s : Session) (line out : List ℕ) where
-  abbrev end : Fed
+  abbrev end : Consumed
   end = finished (readerOf s line)
 
   -- what `finish` promises
@@ -37,7 +37,7 @@ module _ (s : Session) (line out : List ℕ) where
 
   -- a newline is supplied
   supplied : complete s ≡ false → filledFrom s line (newline ∷ []) 0 ≡ record { reader = end .reader; text = end .text; left = [] }
-  unfolding finished filledFrom filled fed
+  unfolding finished filledFrom filled consumed
   supplied e = rw (e, append-nil (byteStep (readerOf s line) newline .text))
 
   stepOf : Progress → Stepped

@@ -54,7 +54,7 @@ use Rattle.script.specs.Hex.{nibble, digitOf, hexPairs, decoded, hexOf, bytesTe
 use Rattle.script.specs.Line.{verbOf, isDash, isHex, bytesOf, noBytesOf, countValue, isCount, countOf, fieldOf, fields, parse}
 use Rattle.script.specs.Answer.{answerLine}
 use Rattle.script.specs.Input.{lines}
-use Rattle.interpreter.specs.Script.{callOf, wordFor, numberFor, bytesFor, answered, answers, aCall, aFault, meaning, scriptFrom, scriptOf, printedOf, output}
+use Rattle.interpreter.specs.Script.{callOf, wordFor, numberFor, bytesFor, answered, answers, callLine, malformedLine, meaning, scriptFrom, scriptOf, printedOf, output}
 use Rattle.interpreter.specs.Session.{begun, readerOf, holding, byteStep}
 
 -- ---- one call
@@ -82,7 +82,7 @@ shown-answers = (refl, refl, refl, refl, refl, refl, refl, refl, refl, refl, ref
 
 -- this line, as line 2, means that call
 abbrev Means : String → Call → Type 0
-Means line c = meaning 2 (text line) ≡ aCall c
+Means line c = meaning 2 (text line) ≡ callLine c
 
 pub meant-calls :
     Means "open 3 0a" (openCall 3 (10 ∷ [])) × Means "feed 4 -" (feedCall 4 []) × Means "draw 5 0003" (drawCall 5 (0 ∷ 0 ∷ 0 ∷ []) 0 3)
@@ -91,7 +91,7 @@ unfolding meaning callOf parse fields fieldOf countOf isCount countValue noBytes
 meant-calls = (refl, refl, refl, refl, refl, refl)
 
 -- the last allowed line, and one after it
-pub last-lines : (meaning 1000000 (text "sum 0 -") ≡ aCall sumCall) × (meaning 1000001 (text "sum 0 -") ≡ aFault)
+pub last-lines : (meaning 1000000 (text "sum 0 -") ≡ callLine sumCall) × (meaning 1000001 (text "sum 0 -") ≡ malformedLine)
 unfolding meaning callOf parse fields fieldOf noBytesOf isDash verbOf same before after isDigit allDigits plainStart valueFrom isNumber numberOf
 last-lines = (refl, refl)
 

@@ -8,12 +8,13 @@ use native.Mathlib.Omega.{arith}
 use lib.Dec.{leb}
 use lib.ListN.{length, length-append}
 use borrow.Author.Tests.{le-leb, lt-leb}
-use Rattle.interpreter.specs.Session.{Reader, Fed, silent, byteStep, fed, longestAnswer, Filled, filled, outputSize}
-use Rattle.interpreter.specs.Theorems.{joined, Taking, partTexts}
-use Rattle.interpreter.proofs.Feeding.{fed-append}
+use Rattle.interpreter.specs.Session.{Reader, Consumed, silent, byteStep, consumed, longestAnswer, Filled, filled, outputSize}
+use Rattle.checks.specs.Joined.{joined}
+use Rattle.interpreter.specs.Theorems.{Taking, partTexts}
+use Rattle.interpreter.proofs.Consuming.{consumed-append}
 
 pub filled-parts : (size : ℕ) (r : Reader) (text chunk : List ℕ) → Taking r text chunk (filled size r text chunk)
-unfolding filled fed
+unfolding filled consumed
 filled-parts size r text [] = record { taken = []; split = refl; reader = refl; printed = sym (append-nil text) }
 filled-parts size r text (b ∷ s) =
     go (leb (length text + longestAnswer) size) (filled-parts size (byteStep r b .reader) (text ++ byteStep r b .text) s)
@@ -26,7 +27,7 @@ filled-parts size r text (b ∷ s) =
           taken = b ∷ p .taken;
           split = ap (λ (l : List ℕ). b ∷ l) (p .split);
           reader = p .reader;
-          printed = p .printed ∙ append-assoc text (byteStep r b .text) (fed (byteStep r b .reader) (p .taken) .text);
+          printed = p .printed ∙ append-assoc text (byteStep r b .text) (consumed (byteStep r b .reader) (p .taken) .text);
         }
     go false p = record { taken = []; split = refl; reader = refl; printed = sym (append-nil text) }
 
@@ -66,27 +67,27 @@ module _ (r : Reader) (chunk : List ℕ) where
   abbrev part : Filled
   part = filled outputSize r [] chunk
 
-  -- the first part and what is fed after it print what the chunk prints
-  part-text : fed r chunk .text ≡ part .text ++ fed (part .reader) (part .left) .text
+  -- the first part and what is consumed after it print what the chunk prints
+  part-text : consumed r chunk .text ≡ part .text ++ consumed (part .reader) (part .left) .text
   part-text =
       let t = filled-parts outputSize r [] chunk in
-      ap (λ (c : List ℕ). fed r c .text) (t .split)
-      ∙ ap (λ (f : Fed). f .text) (fed-append r (t .taken) (part .left))
-      ∙ ap (λ (q : Reader). fed r (t .taken) .text ++ fed q (part .left) .text) (sym (t .reader))
-      ∙ ap (λ (l : List ℕ). l ++ fed (part .reader) (part .left) .text) (sym (t .printed))
+      ap (λ (c : List ℕ). consumed r c .text) (t .split)
+      ∙ ap (λ (f : Consumed). f .text) (consumed-append r (t .taken) (part .left))
+      ∙ ap (λ (q : Reader). consumed r (t .taken) .text ++ consumed q (part .left) .text) (sym (t .reader))
+      ∙ ap (λ (l : List ℕ). l ++ consumed (part .reader) (part .left) .text) (sym (t .printed))
 
 nothing-left : (s : List ℕ) → length s ≤ 0 → s ≡ []
 nothing-left [] h = refl
 nothing-left (b ∷ s) h = absurd (omega arith)
 
-enough : (n : ℕ) (r : Reader) (chunk : List ℕ) → length chunk ≤ n → joined (partTexts n r chunk) ≡ fed r chunk .text
-unfolding joined partTexts fed filled
-enough zero r chunk h = sym (ap (λ (c : List ℕ). fed r c .text) (nothing-left chunk h))
+enough : (n : ℕ) (r : Reader) (chunk : List ℕ) → length chunk ≤ n → joined (partTexts n r chunk) ≡ consumed r chunk .text
+unfolding partTexts consumed filled
+enough zero r chunk h = sym (ap (λ (c : List ℕ). consumed r c .text) (nothing-left chunk h))
 enough (suc n) r [] h = enough n r [] (omega arith)
 enough (suc n) r (b ∷ s) h =
     let fewer = filled-ahead outputSize r [] (b ∷ s) (omega arith) (omega arith) in
     ap (λ (l : List ℕ). part r (b ∷ s) .text ++ l) (enough n (part r (b ∷ s) .reader) (part r (b ∷ s) .left) (omega (arith, fewer)))
     ∙ sym (part-text r (b ∷ s))
 
-pub parts-whole : (r : Reader) (chunk : List ℕ) → joined (partTexts (length chunk) r chunk) ≡ fed r chunk .text
+pub parts-whole : (r : Reader) (chunk : List ℕ) → joined (partTexts (length chunk) r chunk) ≡ consumed r chunk .text
 parts-whole r chunk = enough (length chunk) r chunk (omega arith)

@@ -16,7 +16,7 @@ use Rattle.script.specs.Line.{longestLine}
 use Rattle.script.specs.Input.{piece}
 use Rattle.script.proofs.Pieces.{piece-part}
 use Rattle.interpreter.specs.Session.{Reader, readerOf, holding, hold, longestAnswer, filled}
-use Rattle.interpreter.proofs.Feeding.{stopped-byte}
+use Rattle.interpreter.proofs.Consuming.{stopped-byte}
 use Rattle.interpreter.proofs.Filling.{filled-silent}
 use Rattle.interpreter.proofs.Steps.{hold-step}
 

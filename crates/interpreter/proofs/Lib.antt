@@ -3,7 +3,7 @@ pub mod Printing
 pub mod Calling
 pub mod Meaning
 pub mod Steps
-pub mod Feeding
+pub mod Consuming
 pub mod Filling
 pub mod Holding
 pub mod Short

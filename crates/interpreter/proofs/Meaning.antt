@@ -9,12 +9,12 @@ use Rattle.checks.specs.Equality.{same}
 use Rattle.script.specs.Number.{found, malformed}
 use Rattle.script.specs.Line.{Line, parse}
 use Rattle.interpreter.specs.declared.Session.{Session}
-use Rattle.interpreter.specs.Script.{names, mostLines, theNames, callOf, meaning}
+use Rattle.interpreter.specs.Script.{names, mostLines, namesLine, callOf, meaning}
 use Rattle.interpreter.specs.Session.{stopped, called, stepBy, stepped}
 
 module _ (s : Session) (line : List ℕ) where
   module _ (first : s .number ≡ 1) where
-    pub step-names : same line names ≡ true → stepped s line ≡ stepBy s theNames
+    pub step-names : same line names ≡ true → stepped s line ≡ stepBy s namesLine
     unfolding stepped meaning
     step-names e = rw (eq-eqb (s .number) 1 first, e)
 

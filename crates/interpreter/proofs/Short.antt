@@ -26,7 +26,7 @@ use Rattle.script.specs.Line.{Field, bytes, count, Line, FieldFits, mostBytes, 
 use Rattle.script.proofs.Answers.{answer-long}
 use Rattle.script.proofs.RoundTrip.{printed-lines}
 use Rattle.interpreter.specs.declared.Session.{Session}
-use Rattle.interpreter.specs.Script.{names, mostLines, drawOf, callFor, callOf, verbOf, acceptedBytes, wordFor, numberFor, bytesFor, answered, theNames, aFault, asCall, meaning}
+use Rattle.interpreter.specs.Script.{names, mostLines, drawOf, callFor, callOf, verbOf, acceptedBytes, wordFor, numberFor, bytesFor, answered, namesLine, malformedLine, asCall, meaning}
 use Rattle.interpreter.specs.Session.{longestAnswer, stepBy, stepped}
 
 -- what holds of every way out of a list of checks holds of its answer
@@ -86,7 +86,7 @@ pub step-short : (s : Session) (line : List ℕ) → length (stepped s line .tex
 unfolding stepped meaning
 step-short s line = go (eqb (s .number) 1) (same line names) (leb (s .number) mostLines) (parse line) refl
   where
-    stop-short : length (stepBy s aFault .text) ≤ longestAnswer
+    stop-short : length (stepBy s malformedLine .text) ≤ longestAnswer
     stop-short = answer-long _ _ [] (omega arith)
 
     read : (r : Reading Line) → parse line ≡ r → length (stepBy s (asCall r) .text) ≤ longestAnswer
@@ -94,7 +94,7 @@ step-short s line = go (eqb (s .number) 1) (same line names) (leb (s .number) mo
     read malformed e = stop-short
 
     go : (t u v : Bool) (r : Reading Line) → parse line ≡ r
-        → length (stepBy s (cond t (cond u theNames aFault) (cond v (asCall r) aFault)) .text) ≤ longestAnswer
+        → length (stepBy s (cond t (cond u namesLine malformedLine) (cond v (asCall r) malformedLine)) .text) ≤ longestAnswer
     go true true v r e = omega arith
     go true false v r e = stop-short
     go false u true r e = read r e

@@ -10,9 +10,10 @@ use Rattle.hub.specs.Hub.{emptyHub, onHub}
 use Rattle.hub.proofs.Law.{hub-law}
 use Rattle.script.specs.Line.{longestLine}
 use Rattle.interpreter.specs.Script.{answerNames, answers, endingText, scriptOf, printedOf, output}
-use Rattle.interpreter.specs.Session.{Fed, finished}
-use Rattle.interpreter.specs.Theorems.{joined, atFirst, printed, Scripts}
-use Rattle.interpreter.proofs.Feeding.{fed-joined}
+use Rattle.interpreter.specs.Session.{Consumed, finished}
+use Rattle.checks.specs.Joined.{joined}
+use Rattle.interpreter.specs.Theorems.{atFirst, printed, Scripts}
+use Rattle.interpreter.proofs.Consuming.{consumed-joined}
 use Rattle.interpreter.proofs.Filling.{filled-parts, parts-whole}
 use Rattle.interpreter.proofs.Bounds.{turns-enough}
 use Rattle.interpreter.proofs.Whole.{from-the-start}
@@ -20,7 +21,7 @@ use Rattle.interpreter.proofs.Whole.{from-the-start}
 cut : (line : List ℕ) (chunks : List (List ℕ)) → length line ≡ longestLine → printed line chunks ≡ output onHub emptyHub (joined chunks)
 unfolding printed output
 cut line chunks h =
-    ap (λ (f : Fed). answerNames ++ (f .text ++ finished (f .reader) .text)) (fed-joined (atFirst line) chunks)
+    ap (λ (f : Consumed). answerNames ++ (f .text ++ finished (f .reader) .text)) (consumed-joined (atFirst line) chunks)
     ∙ ap (λ (t : List ℕ). answerNames ++ t) (from-the-start line (joined chunks) h)
 
 plain : (input : List ℕ) → output onHub emptyHub input ≡ output machine emptyMachine input

@@ -20,10 +20,10 @@ use Rattle.script.specs.Number.{malformed}
 use Rattle.script.specs.Line.{longestLine, fields, parse}
 use Rattle.script.specs.Input.{inFront, lines}
 use Rattle.interpreter.specs.declared.Session.{Session}
-use Rattle.interpreter.specs.Script.{names, mostLines, answers, Meaning, theNames, aCall, aFault, asCall, meaning, atTheEnd, atLine, Script, followed, scriptFrom, scriptOf, stopLine, endingText, printedOf}
-use Rattle.interpreter.specs.Session.{begun, stepBy, stepped, Reader, Fed, silent, hold, byteStep, fed, finished}
+use Rattle.interpreter.specs.Script.{names, mostLines, answers, Meaning, namesLine, callLine, malformedLine, asCall, meaning, atTheEnd, atLine, Script, followed, scriptFrom, scriptOf, stopLine, endingText, printedOf}
+use Rattle.interpreter.specs.Session.{begun, stepBy, stepped, Reader, Consumed, silent, hold, byteStep, consumed, finished}
 use Rattle.interpreter.specs.Theorems.{atFirst}
-use Rattle.interpreter.proofs.Feeding.{stopped-fed}
+use Rattle.interpreter.proofs.Consuming.{stopped-consumed}
 use Rattle.interpreter.proofs.Steps.{newline-step, hold-step, long-step}
 
 -- ---- lines, the first of which has begun
@@ -68,11 +68,11 @@ begin-longer (a ∷ h) b ls =
 long-not-names : (s : List ℕ) → longestLine < length s → same s names ≡ false
 long-not-names s h = other-same s names (λ e. omega (arith, ap length e))
 
-long-malformed : (k : ℕ) (s : List ℕ) → longestLine < length s → meaning k s ≡ aFault
+long-malformed : (k : ℕ) (s : List ℕ) → longestLine < length s → meaning k s ≡ malformedLine
 unfolding meaning parse
 long-malformed k s h = rw (long-not-names s h, lt-leb (length s) longestLine h) (go (eqb k 1) (leb k mostLines))
   where
-    go : (t u : Bool) → cond t (cond false theNames aFault) (cond u (asCall (cond false (fields s) malformed)) aFault) ≡ aFault
+    go : (t u : Bool) → cond t (cond false namesLine malformedLine) (cond u (asCall (cond false (fields s) malformed)) malformedLine) ≡ malformedLine
     go true u = refl
     go false true = refl
     go false false = refl
@@ -87,9 +87,9 @@ long-script k h b ls e =
 -- ---- what is printed of a line and the lines after it
 
 printed-call : (s : Session) (c : Call) (rest : Script) (k : ℕ)
-    → printedOf onHub (s .hub) (followed k (aCall c) rest) ≡ stepBy s (aCall c) .text ++ printedOf onHub (stepBy s (aCall c) .session .hub) rest
+    → printedOf onHub (s .hub) (followed k (callLine c) rest) ≡ stepBy s (callLine c) .text ++ printedOf onHub (stepBy s (callLine c) .session .hub) rest
 unfolding printedOf events answers
-printed-call s c rest k = append-assoc (stepBy s (aCall c) .text) (answers (events onHub (stepBy s (aCall c) .session .hub) (rest .calls)))
+printed-call s c rest k = append-assoc (stepBy s (callLine c) .text) (answers (events onHub (stepBy s (callLine c) .session .hub) (rest .calls)))
     (endingText (rest .ending))
 
 printed-fault : (h : Hub) (k : ℕ) → printedOf onHub h (record { calls = []; ending = atLine k }) ≡ stopLine k
@@ -100,16 +100,16 @@ printed-fault h k = refl
 
 -- what is printed from a reader on, to the end of the input
 abbrev toTheEnd : Reader → List ℕ → List ℕ
-toTheEnd r s = fed r s .text ++ finished (fed r s .reader) .text
+toTheEnd r s = consumed r s .text ++ finished (consumed r s .reader) .text
 
 -- a script that has stopped prints nothing more
 end-stopped : (r : Reader) (s : List ℕ) → r .session .going ≡ false → toTheEnd r s ≡ []
 unfolding finished
-end-stopped r s e = rw (stopped-fed r s e) (go (eqb (r .session .held) 0 && not (eqb (r .session .number) 1)))
+end-stopped r s e = rw (stopped-consumed r s e) (go (eqb (r .session .held) 0 && not (eqb (r .session .number) 1)))
   where
-    go : (t : Bool) → cond t (silent r) (fed r (newline ∷ [])) .text ≡ []
+    go : (t : Bool) → cond t (silent r) (consumed r (newline ∷ [])) .text ≡ []
     go true = refl
-    go false = rw (stopped-fed r (newline ∷ []) e)
+    go false = rw (stopped-consumed r (newline ∷ []) e)
 
 -- the line that is being read, so far
 abbrev soFar : Reader → List ℕ
@@ -128,31 +128,31 @@ saying r s = printedOf onHub (r .session .hub) (scriptFrom (r .session .number) 
 
 -- what follows a line that means this: the script goes on, or has stopped
 abbrev Follows : Session → Meaning → Script → List ℕ → Type 0
-Follows s theNames rest others = others ≡ printedOf onHub (stepBy s theNames .session .hub) rest
-Follows s (aCall c) rest others = others ≡ printedOf onHub (stepBy s (aCall c) .session .hub) rest
-Follows s aFault rest others = others ≡ []
+Follows s namesLine rest others = others ≡ printedOf onHub (stepBy s namesLine .session .hub) rest
+Follows s (callLine c) rest others = others ≡ printedOf onHub (stepBy s (callLine c) .session .hub) rest
+Follows s malformedLine rest others = others ≡ []
 
 printed-line : (s : Session) (m : Meaning) (rest : Script) (others : List ℕ) → Follows s m rest others
     → stepBy s m .text ++ others ≡ printedOf onHub (s .hub) (followed (s .number) m rest)
-printed-line s theNames rest others e = e
-printed-line s (aCall c) rest others e = rw e (sym (printed-call s c rest (s .number)))
-printed-line s aFault rest others e = rw e (append-nil (stopLine (s .number)) ∙ sym (printed-fault (s .hub) (s .number)))
+printed-line s namesLine rest others e = e
+printed-line s (callLine c) rest others e = rw e (sym (printed-call s c rest (s .number)))
+printed-line s malformedLine rest others e = rw e (append-nil (stopLine (s .number)) ∙ sym (printed-fault (s .hub) (s .number)))
 
 -- ---- a byte, and the bytes after it
 
 ahead : (r : Reader) (b : ℕ) (s : List ℕ) → toTheEnd r (b ∷ s) ≡ byteStep r b .text ++ toTheEnd (byteStep r b .reader) s
-unfolding fed
-ahead r b s = append-assoc (byteStep r b .text) (fed (byteStep r b .reader) s .text) (finished (fed (byteStep r b .reader) s .reader) .text)
+unfolding consumed
+ahead r b s = append-assoc (byteStep r b .text) (consumed (byteStep r b .reader) s .text) (finished (consumed (byteStep r b .reader) s .reader) .text)
 
 module _ (r : Reader) (w : Sound r) where
   -- the reader after a line that means this
   abbrev after : Meaning → Reader
   after m = record { session = stepBy (r .session) m .session; line = r .line }
 
-  newline-sound : (m : Meaning) → (m ≡ aFault → ⊥) → Sound (after m)
-  newline-sound theNames n = record { going = refl; numbered = omega arith; room = omega arith; buffer = w .buffer }
-  newline-sound (aCall c) n = record { going = refl; numbered = omega arith; room = omega arith; buffer = w .buffer }
-  newline-sound aFault n = absurd (n refl)
+  newline-sound : (m : Meaning) → (m ≡ malformedLine → ⊥) → Sound (after m)
+  newline-sound namesLine n = record { going = refl; numbered = omega arith; room = omega arith; buffer = w .buffer }
+  newline-sound (callLine c) n = record { going = refl; numbered = omega arith; room = omega arith; buffer = w .buffer }
+  newline-sound malformedLine n = absurd (n refl)
 
   at-newline : (s : List ℕ) → ((q : Reader) → Sound q → toTheEnd q s ≡ saying q s) → toTheEnd r (newline ∷ s) ≡ saying r (newline ∷ s)
   unfolding lines scriptFrom stepped begin
@@ -163,9 +163,9 @@ module _ (r : Reader) (w : Sound r) where
       (toTheEnd (after (meaning (r .session .number) (soFar r))) s) (go (meaning (r .session .number) (soFar r))))
     where
       go : (m : Meaning) → Follows (r .session) m (scriptFrom (r .session .number + 1) (lines s)) (toTheEnd (after m) s)
-      go theNames = ih (after theNames) (newline-sound theNames (λ z. let y : _≡_ {A = ℕ} 0 1 = cc in omega arith))
-      go (aCall c) = ih (after (aCall c)) (newline-sound (aCall c) (λ z. let y : _≡_ {A = ℕ} 0 1 = cc in omega arith))
-      go aFault = end-stopped (after aFault) s refl
+      go namesLine = ih (after namesLine) (newline-sound namesLine (λ z. let y : _≡_ {A = ℕ} 0 1 = cc in omega arith))
+      go (callLine c) = ih (after (callLine c)) (newline-sound (callLine c) (λ z. let y : _≡_ {A = ℕ} 0 1 = cc in omega arith))
+      go malformedLine = end-stopped (after malformedLine) s refl
 
   -- another byte, for which there is room
   abbrev held : ℕ → Reader
@@ -186,7 +186,7 @@ module _ (r : Reader) (w : Sound r) where
       → toTheEnd r (b ∷ s) ≡ saying r (b ∷ s)
   at-byte b s n h ih =
       ahead r b s
-      ∙ ap (λ (f : Fed). f .text ++ toTheEnd (f .reader) s) (hold-step r b (w .going) n h)
+      ∙ ap (λ (f : Consumed). f .text ++ toTheEnd (f .reader) s) (hold-step r b (w .going) n h)
       ∙ ih
       ∙ ap (λ (ls : List (List ℕ)). printedOf onHub (r .session .hub) (scriptFrom (r .session .number) ls))
       (ap (λ (l : List ℕ). begin l (lines s)) (hold-line b h) ∙ sym (begin-more (soFar r) b (lines s)) ∙ ap (begin (soFar r)) (sym (lines-byte b s n)))
@@ -195,8 +195,8 @@ module _ (r : Reader) (w : Sound r) where
   at-long : (b : ℕ) (s : List ℕ) → (b ≡ newline → ⊥) → longestLine ≤ r .session .held → toTheEnd r (b ∷ s) ≡ saying r (b ∷ s)
   at-long b s n h =
       ahead r b s
-      ∙ ap (λ (f : Fed). f .text ++ toTheEnd (f .reader) s) (long-step r b (w .going) n h)
-      ∙ ap (λ (t : List ℕ). stopLine (r .session .number) ++ t) (end-stopped (after aFault) s refl)
+      ∙ ap (λ (f : Consumed). f .text ++ toTheEnd (f .reader) s) (long-step r b (w .going) n h)
+      ∙ ap (λ (t : List ℕ). stopLine (r .session .number) ++ t) (end-stopped (after malformedLine) s refl)
       ∙ append-nil (stopLine (r .session .number))
       ∙ sym (printed-fault (r .session .hub) (r .session .number))
       ∙ sym
@@ -215,21 +215,21 @@ module _ (r : Reader) (w : Sound r) where
   prints-nothing h = refl
 
   -- a last line without its newline is run as if it had one
-  last-line : fed r (newline ∷ []) .text ≡ printedOf onHub (r .session .hub) (scriptFrom (r .session .number) (soFar r ∷ []))
-  unfolding fed scriptFrom stepped
+  last-line : consumed r (newline ∷ []) .text ≡ printedOf onHub (r .session .hub) (scriptFrom (r .session .number) (soFar r ∷ []))
+  unfolding consumed scriptFrom stepped
   last-line =
       rw (newline-step r (w .going))
       (printed-line (r .session) (meaning (r .session .number) (soFar r)) (scriptFrom (r .session .number + 1) []) [] (go (meaning (r .session .number) (soFar r))))
     where
       go : (m : Meaning) → Follows (r .session) m (scriptFrom (r .session .number + 1) []) []
-      go theNames = sym (ap (printedOf onHub (r .session .hub)) nothing-more ∙ prints-nothing (r .session .hub))
-      go (aCall c) = sym (ap (printedOf onHub (stepBy (r .session) (aCall c) .session .hub)) nothing-more
-          ∙ prints-nothing (stepBy (r .session) (aCall c) .session .hub))
-      go aFault = refl
+      go namesLine = sym (ap (printedOf onHub (r .session .hub)) nothing-more ∙ prints-nothing (r .session .hub))
+      go (callLine c) = sym (ap (printedOf onHub (stepBy (r .session) (callLine c) .session .hub)) nothing-more
+          ∙ prints-nothing (stepBy (r .session) (callLine c) .session .hub))
+      go malformedLine = refl
 
   -- line 1 is missing
-  no-names : r .session .held ≡ 0 → r .session .number ≡ 1 → fed r (newline ∷ []) .text ≡ printedOf onHub (r .session .hub) (scriptFrom (r .session .number) [])
-  unfolding fed scriptFrom stepped meaning same
+  no-names : r .session .held ≡ 0 → r .session .number ≡ 1 → consumed r (newline ∷ []) .text ≡ printedOf onHub (r .session .hub) (scriptFrom (r .session .number) [])
+  unfolding consumed scriptFrom stepped meaning same
   no-names e f = rw (newline-step r (w .going), e, f) (append-nil (stopLine 1) ∙ sym (printed-fault (r .session .hub) 1))
 
   -- nothing is missing after a line with its newline
@@ -241,11 +241,11 @@ module _ (r : Reader) (w : Sound r) where
   held-length = length-take-le (r .session .held) (r .line) (omega (arith, w .room, w .buffer))
 
   at-end : toTheEnd r [] ≡ saying r []
-  unfolding fed finished lines begin
+  unfolding consumed finished lines begin
   at-end = go (eqb (r .session .held) 0) (eqb (r .session .number) 1) refl refl (soFar r) refl
     where
       go : (t u : Bool) → eqb (r .session .held) 0 ≡ t → eqb (r .session .number) 1 ≡ u → (l : List ℕ) → soFar r ≡ l
-          → cond (t && not u) (silent r) (fed r (newline ∷ [])) .text ≡ printedOf onHub (r .session .hub) (scriptFrom (r .session .number) (begin l []))
+          → cond (t && not u) (silent r) (consumed r (newline ∷ [])) .text ≡ printedOf onHub (r .session .hub) (scriptFrom (r .session .number) (begin l []))
       go true true p q [] e = no-names (eqb-true (r .session .held) 0 p) (eqb-true (r .session .number) 1 q)
       go true false p q [] e = no-line q
       go true u p q (a ∷ l) e = absurd (omega (arith, eqb-true (r .session .held) 0 p, held-length, ap length e))
@@ -271,6 +271,6 @@ whole r (b ∷ s) w = go (eqb b newline) (ltb (r .session .held) longestLine) re
 
 -- from the first byte on
 pub from-the-start : (line s : List ℕ) → length line ≡ longestLine
-    → fed (atFirst line) s .text ++ finished (fed (atFirst line) s .reader) .text ≡ printedOf onHub emptyHub (scriptOf s)
+    → consumed (atFirst line) s .text ++ finished (consumed (atFirst line) s .reader) .text ≡ printedOf onHub emptyHub (scriptOf s)
 unfolding begun scriptOf begin
 from-the-start line s h = whole (atFirst line) s (record { going = refl; numbered = omega arith; room = omega arith; buffer = h })

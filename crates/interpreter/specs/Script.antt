@@ -122,17 +122,17 @@ answers (e ∷ es) = answered (verbOf (e .call)) (e .response .answer) (e .respo
 
 -- what a line means where it stands
 pub data Meaning : Type 0 where
-  theNames : Meaning
-  aCall : Call → Meaning
-  aFault : Meaning
+  namesLine : Meaning
+  callLine : Call → Meaning
+  malformedLine : Meaning
 
 abbrev pub asCall : Reading Line → Meaning
-asCall (found l) = aCall (callOf l)
-asCall malformed = aFault
+asCall (found l) = callLine (callOf l)
+asCall malformed = malformedLine
 
 -- line 1 is the names; no line comes after the last allowed one
 unfoldable pub meaning : ℕ → List ℕ → Meaning
-meaning k s = cond (eqb k 1) (cond (same s names) theNames aFault) (cond (leb k mostLines) (asCall (parse s)) aFault)
+meaning k s = cond (eqb k 1) (cond (same s names) namesLine malformedLine) (cond (leb k mostLines) (asCall (parse s)) malformedLine)
 
 -- how a script ends: with its input, or at a malformed line of this number
 pub data Ending : Type 0 where
@@ -146,9 +146,9 @@ pub record Script : Type 0 where
 
 -- line k means this, and the lines after it say the rest
 abbrev pub followed : ℕ → Meaning → Script → Script
-followed k theNames rest = rest
-followed k (aCall c) rest = record { calls = c ∷ rest .calls; ending = rest .ending }
-followed k aFault rest = record { calls = []; ending = atLine k }
+followed k namesLine rest = rest
+followed k (callLine c) rest = record { calls = c ∷ rest .calls; ending = rest .ending }
+followed k malformedLine rest = record { calls = []; ending = atLine k }
 
 -- what the lines from number k on say. Input without line 1 lacks the names
 unfoldable pub scriptFrom : ℕ → List (List ℕ) → Script

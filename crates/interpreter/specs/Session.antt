@@ -13,7 +13,7 @@ use Rattle.script.specs.Line.{longestLine}
 use Rattle.interpreter.specs.declared.Session.{Session}
 use Rattle.interpreter.specs.declared.Progress.{Progress}
 use Rattle.interpreter.specs.declared.line.Stepped.{Stepped}
-use Rattle.interpreter.specs.Script.{Meaning, theNames, aCall, aFault, meaning, answerNames, answered, verbOf, stopLine}
+use Rattle.interpreter.specs.Script.{Meaning, namesLine, callLine, malformedLine, meaning, answerNames, answered, verbOf, stopLine}
 
 -- line 1 is to be read, and nothing of it was
 unfoldable pub begun : Session
@@ -46,9 +46,9 @@ called s c =
     }
 
 abbrev pub stepBy : Session → Meaning → LineStep
-stepBy s theNames = record { session = goOn s (s .hub); text = [] }
-stepBy s (aCall c) = called s c
-stepBy s aFault = stopped s
+stepBy s namesLine = record { session = goOn s (s .hub); text = [] }
+stepBy s (callLine c) = called s c
+stepBy s malformedLine = stopped s
 
 unfoldable pub stepped : Session → List ℕ → LineStep
 stepped s line = stepBy s (meaning (s .number) line)
@@ -64,15 +64,15 @@ abbrev pub readerOf : Session → List ℕ → Reader
 readerOf s line = record { session = s; line = line }
 
 -- what bytes leave, and what is printed of them
-pub record Fed : Type 0 where
+pub record Consumed : Type 0 where
   pub reader : Reader
   pub text : List ℕ
 
-abbrev pub silent : Reader → Fed
+abbrev pub silent : Reader → Consumed
 silent r = record { reader = r; text = [] }
 
 -- the session after a line; the buffer keeps its bytes
-abbrev pub afterStep : Reader → LineStep → Fed
+abbrev pub afterStep : Reader → LineStep → Consumed
 afterStep r s = record { reader = record { session = s .session; line = r .line }; text = s .text }
 
 -- the buffer holds n bytes of the line
@@ -80,12 +80,12 @@ abbrev pub holding : Session → ℕ → Session
 holding s n = record { hub = s .hub; number = s .number; held = n; going = s .going }
 
 -- one more byte of it
-abbrev pub hold : Reader → ℕ → Fed
+abbrev pub hold : Reader → ℕ → Consumed
 hold r b =
     silent (record { session = holding (r .session) (r .session .held + 1); line = set (r .line) (r .session .held) b })
 
 -- a newline ends the line, any other byte is one more of it, and one too many is malformed. Once the script has stopped, bytes do nothing
-unfoldable pub byteStep : Reader → ℕ → Fed
+unfoldable pub byteStep : Reader → ℕ → Consumed
 byteStep r b =
     cond (r .session .going)
     (cond (eqb b newline)
@@ -93,20 +93,20 @@ byteStep r b =
     (cond (ltb (r .session .held) longestLine) (hold r b) (afterStep r (stopped (r .session)))))
     (silent r)
 
-abbrev pub andThen : List ℕ → Fed → Fed
+abbrev pub andThen : List ℕ → Consumed → Consumed
 andThen text f = record { reader = f .reader; text = text ++ f .text }
 
-unfoldable pub fed : Reader → List ℕ → Fed
-fed r [] = silent r
-fed r (b ∷ s) = andThen (byteStep r b .text) (fed (byteStep r b .reader) s)
+unfoldable pub consumed : Reader → List ℕ → Consumed
+consumed r [] = silent r
+consumed r (b ∷ s) = andThen (byteStep r b .text) (consumed (byteStep r b .reader) s)
 
 -- no newline is missing: nothing of a line was read. Line 1 is missing where nothing was read at all
 abbrev pub complete : Session → Bool
 complete s = eqb (s .held) 0 && not (eqb (s .number) 1)
 
 -- at the end of the input a newline that is missing is supplied
-unfoldable pub finished : Reader → Fed
-finished r = cond (complete (r .session)) (silent r) (fed r (newline ∷ []))
+unfoldable pub finished : Reader → Consumed
+finished r = cond (complete (r .session)) (silent r) (consumed r (newline ∷ []))
 
 -- ---- filling an output buffer
 
@@ -140,8 +140,8 @@ filledFrom s line chunk at = filled outputSize (readerOf s line) [] (drop at chu
 abbrev pub progressOf : List ℕ → Filled → Progress
 progressOf chunk f = record { session = f .reader .session; next = length chunk - length (f .left); size = length (f .text) }
 
--- the session after feeding bytes, and how much they printed
-abbrev pub endOf : Fed → Stepped
+-- the session after bytes were consumed, and how much they printed
+abbrev pub endOf : Consumed → Stepped
 endOf f = record { session = f .reader .session; size = length (f .text) }
 
 -- where a script begins, with the line of names in the output buffer

@@ -5,20 +5,16 @@ use mathlib.Core.Bool.{true}
 use mathlib.Core.List.{List, [], _∷_, _++_}
 use Prim.Native.Nat.{ℕ, zero, suc, _≤_}
 use lib.ListN.{length}
+use Rattle.checks.specs.Joined.{joined}
 use Rattle.calls.specs.Machine.{machine, emptyMachine}
 use Rattle.hub.specs.Hub.{emptyHub, onHub}
 use Rattle.script.specs.Line.{longestLine}
 use Rattle.interpreter.specs.Script.{answerNames, output}
-use Rattle.interpreter.specs.Session.{begun, Reader, readerOf, Fed, silent, andThen, fed, finished, Filled, filled, outputSize}
+use Rattle.interpreter.specs.Session.{begun, Reader, readerOf, Consumed, silent, andThen, consumed, finished, Filled, filled, outputSize}
 
--- chunks one after the other
-unfoldable pub joined : List (List ℕ) → List ℕ
-joined [] = []
-joined (c ∷ cs) = c ++ joined cs
-
-unfoldable pub fedAll : Reader → List (List ℕ) → Fed
-fedAll r [] = silent r
-fedAll r (c ∷ cs) = andThen (fed r c .text) (fedAll (fed r c .reader) cs)
+unfoldable pub consumedAll : Reader → List (List ℕ) → Consumed
+consumedAll r [] = silent r
+consumedAll r (c ∷ cs) = andThen (consumed r c .text) (consumedAll (consumed r c .reader) cs)
 
 -- a script begins with any line buffer
 abbrev pub atFirst : List ℕ → Reader
@@ -27,7 +23,7 @@ atFirst line = readerOf begun line
 -- what is printed of input in chunks: the names first, each chunk's answers, and what the end of the input adds
 unfoldable pub printed : List ℕ → List (List ℕ) → List ℕ
 printed line chunks =
-    answerNames ++ (fedAll (atFirst line) chunks .text ++ finished (fedAll (atFirst line) chunks .reader) .text)
+    answerNames ++ (consumedAll (atFirst line) chunks .text ++ finished (consumedAll (atFirst line) chunks .reader) .text)
 
 -- no more bytes than these leave a script going: a million lines of the longest length with their newlines, and one such line without
 abbrev pub mostInput : ℕ
@@ -37,12 +33,12 @@ abbrev pub NotEmpty : List (List ℕ) → Type 0
 NotEmpty [] = Unit {0}
 NotEmpty (c ∷ cs) = (1 ≤ length c) × NotEmpty cs
 
--- filling a buffer, with some text in it, from a chunk takes the chunk's first bytes: it leaves what feeding them leaves, and prints what they print
+-- filling a buffer, with some text in it, from a chunk takes the chunk's first bytes: it leaves what consuming them leaves, and prints what they print
 pub record Taking (r : Reader) (text chunk : List ℕ) (f : Filled) : Type 0 where
   pub taken : List ℕ
   pub split : chunk ≡ taken ++ f .left
-  pub reader : f .reader ≡ fed r taken .reader
-  pub printed : f .text ≡ text ++ fed r taken .text
+  pub reader : f .reader ≡ consumed r taken .reader
+  pub printed : f .text ≡ text ++ consumed r taken .text
 
 -- what is printed of a chunk, one output buffer after the other: each is filled from what the one before it left, and there are no more of them than bytes
 unfoldable pub partTexts : ℕ → Reader → List ℕ → List (List ℕ)
@@ -59,7 +55,7 @@ pub record Scripts : Type 0 where
   -- a chunk whose answers do not fit into a buffer is taken in parts
   pub parts : (size : ℕ) (r : Reader) (text chunk : List ℕ) → Taking r text chunk (filled size r text chunk)
   -- and all its parts together print what the chunk prints
-  pub whole : (r : Reader) (chunk : List ℕ) → joined (partTexts (length chunk) r chunk) ≡ fed r chunk .text
+  pub whole : (r : Reader) (chunk : List ℕ) → joined (partTexts (length chunk) r chunk) ≡ consumed r chunk .text
   -- a program that reads a byte at least in each turn makes no more than so many turns before the script has stopped or its input has ended
   pub turns : (line : List ℕ) (chunks : List (List ℕ)) → NotEmpty chunks
-      → fedAll (atFirst line) chunks .reader .session .going ≡ true → length chunks ≤ mostInput
+      → consumedAll (atFirst line) chunks .reader .session .going ≡ true → length chunks ≤ mostInput

@@ -10,8 +10,8 @@ use lib.Seq.{take-at}
 use Rattle.checks.specs.Buffers.{written}
 use Rattle.interpreter.specs.declared.Session.{Session}
 use Rattle.interpreter.specs.declared.Progress.{Progress}
-use Rattle.interpreter.specs.Session.{Reader, readerOf, Fed, fed, Filled, outputSize, filledFrom, progressOf}
-use Rattle.interpreter.proofs.Feeding.{fed-append}
+use Rattle.interpreter.specs.Session.{Reader, readerOf, Consumed, consumed, Filled, outputSize, filledFrom, progressOf}
+use Rattle.interpreter.proofs.Consuming.{consumed-append}
 use Rattle.interpreter.proofs.Filling.{filled-parts, filled-ahead}
 use Rattle.rampscript.specs.Program.{Answering}
 
@@ -20,13 +20,13 @@ pub covers : (out text : List ℕ) (size : ℕ) (last : List ℕ) → size ≡ l
 unfolding written
 covers out text size last e f = omega (arith, e, ap length f, length-append text (drop (0 + length text) out))
 
--- where the loop over a chunk stands: the bytes before this place were fed
+-- where the loop over a chunk stands: the bytes before this place were consumed
 pub record Answers (r : Reader) (chunk : List ℕ) (at : ℕ) (s : Session) (line : List ℕ) : Type 0 where
   pub inside : at ≤ length chunk
-  pub reader : readerOf s line ≡ fed r (take at chunk) .reader
+  pub reader : readerOf s line ≡ consumed r (take at chunk) .reader
 
 pub answers-first : (s : Session) (line chunk : List ℕ) → Answers (readerOf s line) chunk 0 s line
-unfolding fed
+unfolding consumed
 answers-first s line chunk = record { inside = omega arith; reader = refl }
 
 module _ (r : Reader) (chunk : List ℕ) (at : ℕ) (s : Session) (line : List ℕ) (more : at < length chunk) (p : Progress) (line′ : List ℕ)
@@ -63,9 +63,9 @@ module _ (r : Reader) (chunk : List ℕ) (at : ℕ) (s : Session) (line : List �
         reader =
             now
             ∙ t .reader
-            ∙ ap (λ (q : Reader). fed q (t .taken) .reader) (a .reader)
-            ∙ ap (λ (f : Fed). f .reader) (sym (fed-append r (take at chunk) (t .taken)))
-            ∙ ap (λ (l : List ℕ). fed r l .reader) (sym front);
+            ∙ ap (λ (q : Reader). consumed q (t .taken) .reader) (a .reader)
+            ∙ ap (λ (f : Consumed). f .reader) (sym (consumed-append r (take at chunk) (t .taken)))
+            ∙ ap (λ (l : List ℕ). consumed r l .reader) (sym front);
       }
 
 module _ (r : Reader) (chunk : List ℕ) (at : ℕ) (s : Session) (line : List ℕ) (a : Answers r chunk at s line) where

@@ -9,39 +9,39 @@ use lib.Dec.{eqb}
 use lib.ListN.{length}
 use borrow.Author.Tests.{eqb-false, not-true}
 use Rattle.interpreter.specs.declared.Session.{Session}
-use Rattle.interpreter.specs.Session.{begun, Reader, readerOf, fed, finished}
-use Rattle.interpreter.specs.Theorems.{fedAll, atFirst, NotEmpty}
-use Rattle.interpreter.proofs.Bounds.{left, fed-left}
+use Rattle.interpreter.specs.Session.{begun, Reader, readerOf, consumed, finished}
+use Rattle.interpreter.specs.Theorems.{consumedAll, atFirst, NotEmpty}
+use Rattle.interpreter.proofs.Bounds.{left, consumed-left}
 use Rattle.rampscript.specs.declared.Turn.{Turn}
 use Rattle.rampscript.specs.declared.Ended.{Ended}
 use Rattle.rampscript.specs.Program.{Turning, more, Running, finishes, Ending}
 
 -- ---- one turn
 
--- a turn whose answers were written fed its whole chunk
+-- a turn whose answers were written consumed its whole chunk
 module _ {r : Reader} {t : Turn} {line : List ℕ} (w : Turning r t line) where
-  fed-whole : t .wrote ≡ true → readerOf (t .session) line ≡ fed r (w .chunk) .reader
-  fed-whole e =
+  consumed-whole : t .wrote ≡ true → readerOf (t .session) line ≡ consumed r (w .chunk) .reader
+  consumed-whole e =
       let a = w .answering in
       let all : w .chunk ≡ a .taken = a .split ∙ ap (λ (l : List ℕ). a .taken ++ l) (a .all e) ∙ append-nil (a .taken) in
-      a .reader ∙ ap (λ (l : List ℕ). fed r l .reader) (sym all)
+      a .reader ∙ ap (λ (l : List ℕ). consumed r l .reader) (sym all)
 
 -- ---- all turns
 
--- where the loop stands: the chunks that were read, of a byte at least each, were fed
+-- where the loop stands: the chunks that were read, of a byte at least each, were consumed
 pub record Made (r q : Reader) : Type 0 where
   pub chunks : List (List ℕ)
   pub some : NotEmpty chunks
-  pub reader : q ≡ fedAll r chunks .reader
+  pub reader : q ≡ consumedAll r chunks .reader
 
 pub made-none : (r : Reader) → Made r r
-unfolding fedAll
+unfolding consumedAll
 made-none r = record { chunks = []; some = tt; reader = refl }
 
-fed-last : (r : Reader) (cs : List (List ℕ)) (c : List ℕ) → fedAll r (cs ++ (c ∷ [])) .reader ≡ fed (fedAll r cs .reader) c .reader
-unfolding fedAll
-fed-last r [] c = refl
-fed-last r (d ∷ cs) c = fed-last (fed r d .reader) cs c
+consumed-last : (r : Reader) (cs : List (List ℕ)) (c : List ℕ) → consumedAll r (cs ++ (c ∷ [])) .reader ≡ consumed (consumedAll r cs .reader) c .reader
+unfolding consumedAll
+consumed-last r [] c = refl
+consumed-last r (d ∷ cs) c = consumed-last (consumed r d .reader) cs c
 
 some-last : (cs : List (List ℕ)) (c : List ℕ) → NotEmpty cs → 1 ≤ length c → NotEmpty (cs ++ (c ∷ []))
 some-last [] c h n = (n, tt)
@@ -72,16 +72,16 @@ module _ (r q : Reader) (t : Turn) (line : List ℕ) (m : Made r q) (w : Turning
         record {
           chunks = m .chunks ++ (w .chunk ∷ []);
           some = some-last (m .chunks) (w .chunk) (m .some) size;
-          reader = fed-whole w (told .0) ∙ ap (λ (p : Reader). fed p (w .chunk) .reader) (m .reader) ∙ sym (fed-last r (m .chunks) (w .chunk));
+          reader = consumed-whole w (told .0) ∙ ap (λ (p : Reader). consumed p (w .chunk) .reader) (m .reader) ∙ sym (consumed-last r (m .chunks) (w .chunk));
         }
 
     -- fewer bytes may still be read
     pub fewer : left (t .session) < left (q .session)
     fewer =
-        let s = fed-whole w (told .0) in
-        let going : fed q (w .chunk) .reader .session .going ≡ true = sym (ap (λ (p : Reader). p .session .going) s) ∙ told .1 .1 in
-        let same : left (t .session) ≡ left (fed q (w .chunk) .reader .session) = ap (λ (p : Reader). left (p .session)) s in
-        omega (arith, fed-left q (w .chunk) going, same, size)
+        let s = consumed-whole w (told .0) in
+        let going : consumed q (w .chunk) .reader .session .going ≡ true = sym (ap (λ (p : Reader). p .session .going) s) ∙ told .1 .1 in
+        let same : left (t .session) ≡ left (consumed q (w .chunk) .reader .session) = ap (λ (p : Reader). left (p .session)) s in
+        omega (arith, consumed-left q (w .chunk) going, same, size)
 
 -- ---- the whole script
 

@@ -8,18 +8,18 @@ use mathlib.Core.List.{List, [], _++_}
 use Prim.Native.Nat.{ℕ}
 use lib.Dec.{eqb}
 use lib.ListN.{length}
-use Rattle.interpreter.specs.Session.{Reader, readerOf, fed, finished}
-use Rattle.interpreter.specs.Theorems.{fedAll, atFirst, NotEmpty}
+use Rattle.interpreter.specs.Session.{Reader, readerOf, consumed, finished}
+use Rattle.interpreter.specs.Theorems.{consumedAll, atFirst, NotEmpty}
 use Rattle.rampscript.specs.declared.Answered.{Answered}
 use Rattle.rampscript.specs.declared.Turn.{Turn}
 use Rattle.rampscript.specs.declared.Ended.{Ended}
 
--- A chunk was answered: its first bytes were fed, and all of them unless a write failed.
+-- A chunk was answered: its first bytes were consumed, and all of them unless a write failed.
 pub record Answering (r : Reader) (chunk : List ℕ) (a : Answered) (line : List ℕ) : Type 0 where
   pub taken : List ℕ
   pub left : List ℕ
   pub split : chunk ≡ taken ++ left
-  pub reader : readerOf (a .session) line ≡ fed r taken .reader
+  pub reader : readerOf (a .session) line ≡ consumed r taken .reader
   pub all : a .wrote ≡ true → left ≡ []
 
 -- what a turn has of an answered chunk
@@ -37,11 +37,11 @@ pub record Turning (r : Reader) (t : Turn) (line : List ℕ) : Type 0 where
 abbrev pub more : Turn → Bool
 more t = t .wrote && (not (eqb (t .count) 0) && t .session .going)
 
--- Turns were made until none was to be made: each chunk before the last had a byte at least and was fed whole, and this was the last turn.
+-- Turns were made until none was to be made: each chunk before the last had a byte at least and was consumed whole, and this was the last turn.
 pub record Running (r : Reader) (t : Turn) (line : List ℕ) : Type 0 where
   pub before : List (List ℕ)
   pub some : NotEmpty before
-  pub last : Turning (fedAll r before .reader) t line
+  pub last : Turning (consumedAll r before .reader) t line
   pub over : more t ≡ false
 
 -- the end of the input is told to the script where the names and all answers were written and no read failed
@@ -54,7 +54,7 @@ pub record Ending (line : List ℕ) (e : Ended) (line′ : List ℕ) : Type 0 wh
   pub buffer : List ℕ
   -- where the names were written, turns were made from the first line on until none was to be made, and how the last one went is handed on
   pub ran : e .started ≡ true → Running (atFirst line) turn buffer × ((e .failed ≡ turn .failed) × (e .wrote ≡ turn .wrote))
-  -- where they were not, nothing was fed
+  -- where they were not, nothing was consumed
   pub unread : e .started ≡ false → readerOf (turn .session) buffer ≡ atFirst line
   -- then, or not, the script was told that its input ends
   pub reader : readerOf (e .session) line′ ≡ cond (finishes e) (finished (readerOf (turn .session) buffer) .reader) (readerOf (turn .session) buffer)

@@ -16,7 +16,8 @@ use Rattle.mode.specs.Mode.{Row, row}
 use Rattle.sponge.specs.Sponge.{ceiling, start, absorbMessage, output, oneShot, runsFeeding, runsEnded}
 use Rattle.sponge.specs.Record.{sum64, withCore, withFed, withDrawn, withFeeding, afterRun, feedBytes, endFeeding, drawnBytes, afterDrawing, fresh, absorbed}
 use Rattle.sponge.specs.Record.{finished, nextBytes, squeezed, block, tagMatches}
-use Rattle.sponge.specs.Streaming.{joined, total, feedParts, drawnParts, afterParts, StreamingTheorem, absorbedParts, nextParts, squeezedParts, StreamingCallsTheorem}
+use Rattle.checks.specs.Joined.{joined}
+use Rattle.sponge.specs.Streaming.{total, feedParts, drawnParts, afterParts, StreamingTheorem, absorbedParts, nextParts, squeezedParts, StreamingCallsTheorem}
 use Rattle.sponge.proofs.Core.{sum64-lt, sum64-sum64, sum64-fits, sum64-zero, withCoreOf}
 use Rattle.sponge.proofs.Feeding.{feedBytes-append, feeding-ended, feeding-counted}
 use Rattle.sponge.proofs.Drawing.{drawnBytes-core, drawnBytes-add, afterDrawing-core, afterDrawing-add, afterRuns, afterRuns-zero, afterDrawing-runs}

@@ -6,16 +6,12 @@ use mathlib.Core.List.{List, [], _∷_, _++_}
 use Prim.Native.Nat.{ℕ, _+_, _^_, _≤_, _<_}
 use lib.ListN.{length, take}
 use Rattle.checks.specs.Equality.{same}
+use Rattle.checks.specs.Joined.{joined}
 use Rattle.mode.specs.declared.Mode.{Mode}
 use Rattle.sponge.specs.declared.record.Record.{Record}
 use Rattle.mode.specs.Mode.{Row, row}
 use Rattle.sponge.specs.Sponge.{start, output, oneShot, runsFeeding, runsEnded}
 use Rattle.sponge.specs.Record.{feedBytes, endFeeding, drawnBytes, afterDrawing, fresh, absorbed, finished, nextBytes, squeezed, tagMatches}
-
--- the parts of a message, joined
-abbrev pub joined : List (List ℕ) → List ℕ
-joined [] = []
-joined (m ∷ ms) = m ++ joined ms
 
 -- the sum of counts
 abbrev pub total : List ℕ → ℕ

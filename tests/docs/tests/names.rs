@@ -1,15 +1,16 @@
 //! What the documents name exists: files, definitions, laws, functions, tests and must-fail edits.
 use docs::{crates, exists, quoted, read, Names};
 
-/// A name or a path, and no piece of code: one word, of letters, digits and the signs that join them.
+/// A name or a path, and no piece of code: one word, of letters, digits and the signs that join them. What a build makes is there after it alone.
 fn is_reference(text: &str) -> bool {
     let sign = |c: char| c.is_alphanumeric() || "_-:/.′".contains(c);
-    text.chars().all(sign) && text.chars().any(char::is_alphabetic)
+    let built = text.starts_with("target/");
+    text.chars().all(sign) && text.chars().any(char::is_alphabetic) && !built
 }
 
-/// What a document names that does not exist. What lies in `target/` need not: a clean clone has none of it.
+/// What a document names that does not exist.
 fn missing<'a>(names: &Names, text: &'a str) -> Vec<&'a str> {
-    let known = |t: &str| t.starts_with("target/") || exists(t) || names.has(t);
+    let known = |t: &str| exists(t) || names.has(t);
     quoted(text)
         .into_iter()
         .filter(|t| is_reference(t) && !known(t))

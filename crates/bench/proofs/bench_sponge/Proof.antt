@@ -10,7 +10,8 @@ use Rattle.mode.specs.declared.Named.the-variants.{Is, NoMode}
 use Rattle.mode.specs.Mode.{row, named}
 use Rattle.sponge.specs.Sponge.{start, oneShot, runsEnded}
 use Rattle.sponge.specs.Record.{fresh, finished}
-use Rattle.sponge.specs.Streaming.{joined, total, absorbedParts, nextParts, squeezedParts}
+use Rattle.checks.specs.Joined.{joined}
+use Rattle.sponge.specs.Streaming.{total, absorbedParts, nextParts, squeezedParts}
 use Rattle.sponge.proofs.Streaming.{runs-fit, streaming-calls}
 use Rattle.bench.specs.Sponge.{partsAt, countsAt}
 use borrow.Author.Needs.{needs}

@@ -1,4 +1,4 @@
--- `rampscript::answer` meets its contract. The loop: the bytes before the place were fed.
+-- `rampscript::answer` meets its contract. The loop: the bytes before the place were consumed.
 -- Assumes nothing.
 use mathlib.Core.Path.{sym, ap}
 use Prim.Native.Nat.{_-_, _≤_}

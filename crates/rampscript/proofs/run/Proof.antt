@@ -1,4 +1,4 @@
--- `rampscript::run` meets its contract. The loop: the chunks that were read were fed; and with each turn fewer bytes may still be read.
+-- `rampscript::run` meets its contract. The loop: the chunks that were read were consumed; and with each turn fewer bytes may still be read.
 -- Assumes nothing.
 use mathlib.Core.Path.{sym, _∙_}
 use borrow.Author.Needs.{needs}
