@@ -17,6 +17,22 @@ cargo_lines() {
     sed -n 's/^test result: .* \([0-9]*\) passed; \([0-9]*\) failed;.*/\1 \2/p' "$log" | awk '{ p += $1; f += $2 } END { print p + 0, f + 0 }'
 }
 
+# Counts a command that passes or fails as a whole.
+one() { # WHAT COMMAND...
+    if "${@:2}"; then
+        echo "$1"
+        passed=$((passed + 1))
+    else
+        echo "$1: FAILED"
+        failed=$((failed + 1))
+    fi
+}
+
+# Whether a command prints what a file holds.
+prints() { # FILE COMMAND...
+    "${@:2}" >"$log" && diff "$1" "$log"
+}
+
 need() { # COMMAND WHAT-IT-IS
     command -v "$1" >/dev/null 2>&1 && return
     echo "missing: $1, $2"

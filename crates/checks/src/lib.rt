@@ -1,5 +1,5 @@
-// Checks that calls begin with. The definitions of this crate say how a list of them answers, what a lent buffer holds after bytes were written into it, and
-// whether two lists of bytes are equal.
+// Checks that calls begin with. The definitions of this crate say how a list of them answers, what a lent buffer holds after bytes were written into it,
+// whether two lists of bytes are equal, and what lists joined are.
 ghost use mathlib.Core.Path.{_≡_};
 ghost use Prim.Native.Nat.{_+_};
 ghost use lib.Dec.{ltb};

@@ -1,1 +1,2 @@
+-- Crate `examples`: its proof.
 pub mod Examples

@@ -1,1 +1,2 @@
+-- Crate `examples`: its statement.
 pub mod Examples

@@ -98,7 +98,7 @@ ending-none line s e =
       turn = record { session = s; count = 0; failed = false; wrote = false };
       buffer = line;
       ran = λ f. absurd (false≢true f);
-      unread = λ f. ap (λ (x : Session). readerOf x line) e;
+      unread = λ f. (ap (λ (x : Session). readerOf x line) e, (refl, refl));
       reader = refl;
     }
 

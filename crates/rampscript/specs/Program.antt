@@ -1,6 +1,6 @@
 -- What the program's functions hand on. What a read brought, and that a write wrote what it was lent, no contract of the kit says: a chunk that was read is a
--- list of bytes
--- here, of which nothing is known. That what is lent to a write is what `fill` put into its buffer stands in the code.
+-- list of bytes here, of which nothing is known, and whether a read failed is a flag that is handed on. That what is lent to a write is what `fill` put into its
+-- buffer, and that the flag is the read's, stands in the code.
 -- Assumes nothing.
 use mathlib.Core.Path.{_≡_}
 use mathlib.Core.Bool.{Bool, true, false, cond, not, _&&_}
@@ -54,7 +54,7 @@ pub record Ending (line : List ℕ) (e : Ended) (line′ : List ℕ) : Type 0 wh
   pub buffer : List ℕ
   -- where the names were written, turns were made from the first line on until none was to be made, and how the last one went is handed on
   pub ran : e .started ≡ true → Running (atFirst line) turn buffer × ((e .failed ≡ turn .failed) × (e .wrote ≡ turn .wrote))
-  -- where they were not, nothing was consumed
-  pub unread : e .started ≡ false → readerOf (turn .session) buffer ≡ atFirst line
+  -- where they were not, nothing was consumed, and nothing more was tried
+  pub unread : e .started ≡ false → (readerOf (turn .session) buffer ≡ atFirst line) × ((e .failed ≡ false) × (e .wrote ≡ false))
   -- then, or not, the script was told that its input ends
   pub reader : readerOf (e .session) line′ ≡ cond (finishes e) (finished (readerOf (turn .session) buffer) .reader) (readerOf (turn .session) buffer)

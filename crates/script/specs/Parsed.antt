@@ -39,7 +39,7 @@ abbrev pub lineIn : Parsed → List ℕ → Reading Line
 lineIn (Call v n size) buffer = found (lineWith v n size buffer)
 lineIn Malformed buffer = malformed
 
--- ---- how a line is answered
+-- ---- what `parse_line` gives
 
 -- how many bytes the third field has, or a draw's count
 abbrev pub sizeOf : Field → ℕ

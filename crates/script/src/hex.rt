@@ -75,7 +75,7 @@ fn digit_of(n: u8) -> u8
     b'a' + (n - 10)
 }
 
-// Two digits for each byte.
+// Two digits for each byte. What does not fit is left out, be it half of a byte.
 pub fn put_hex(out: &mut [u8], at: usize, bytes: &[u8]) -> usize
     ensures { λ r. ⌜ Wrote (now (out .entry)) at (spec.hexOf (now (bytes .entry))) (now (out .exit)) r ⌝ }
 {

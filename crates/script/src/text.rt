@@ -6,6 +6,7 @@ ghost use lib.ListN.{length};
 ghost use Rattle.checks.specs.Equality as equality;
 ghost use Rattle.script.specs.Text as spec;
 
+// Whether two texts are equal. It stops at the first difference: it is for words of the language, and not for tags.
 pub fn same(a: &[u8], b: &[u8]) -> bool
     ensures { λ r. ⌜ r ≡ equality.same (now (a .entry)) (now (b .entry)) ⌝ }
 {

@@ -11,8 +11,14 @@ use Rattle.word.proofs.Bytes.{Bytes, part-bytes, number-bytes}
 use Rattle.state.proofs.Starts.{start-read, start-xored}
 use Rattle.mode.specs.declared.Mode.{Mode}
 use Rattle.mode.specs.declared.Mode.the-variants.{Prf, Mac, Hash, Xof}
-use Rattle.mode.specs.Mode.{row}
+use Rattle.mode.specs.Mode.{Row, row}
 use Rattle.sponge.specs.Sponge.{initial}
+
+pub initial-bytes : (w : Row) (key : List ℕ) → Bytes key → length (take (w .keyLength) key) ≤ 32
+    → bytesFrom 0 40 (initial w key) ≡ zerosTo 40 (toBytes 8 (w .startWord) ++ take (w .keyLength) key)
+unfolding initial toBytes
+initial-bytes w key bytes short =
+    start-read (toBytes 8 (w .startWord)) (take (w .keyLength) key) refl short (number-bytes 8 (w .startWord)) (part-bytes (w .keyLength) 0 key bytes)
 
 -- a start word is the number that its eight bytes make
 start-number : (mode : Mode) → fromBytes (toBytes 8 (row mode .startWord)) ≡ row mode .startWord
@@ -36,10 +42,6 @@ module _ (mode : Mode) (key : List ℕ) (bytes : Bytes key) where
 
   abbrev used : List ℕ
   used = take (row mode .keyLength) key
-
-  pub initial-bytes : bytesFrom 0 40 (initial (row mode) key) ≡ zerosTo 40 (value ++ used)
-  unfolding initial toBytes
-  initial-bytes = start-read value used refl (key-fits mode key) (number-bytes 8 (row mode .startWord)) (part-bytes (row mode .keyLength) 0 key bytes)
 
   pub initial-xored : initial (row mode) key ≡ xorFrom 8 used (row mode .startWord ∷ 0 ∷ 0 ∷ 0 ∷ 0 ∷ [])
   unfolding initial toBytes

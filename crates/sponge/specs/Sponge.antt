@@ -15,7 +15,8 @@ ceiling d r = (d + (r - 1)) / r
 
 -- ---- initialization
 
--- the start word, the key, and zeros up to forty bytes [IV ∥ K ∥ 0*]. Of a key that is longer than the mode's, the first bytes count
+-- the start word, the key, and zeros up to forty bytes [IV ∥ K ∥ 0*]. Of a key that is longer than the mode's the first
+-- bytes count, and zeros follow a shorter one
 unfoldable pub initial : Row → List ℕ → List ℕ
 initial w key = wordsOf 5 (zerosTo 40 (toBytes 8 (w .startWord) ++ take (w .keyLength) key))
 
