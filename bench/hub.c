@@ -20,13 +20,25 @@ BATCH(by_value, bench_feeds_by_value)
 BATCH(in_place, bench_feeds_in_place)
 BATCH(plain, plain_feeds)
 
-static const struct peers ways[2] = {{{by_value, plain}, &runs, sizeof runs}, {{in_place, plain}, &runs, sizeof runs}};
+static const struct peers copied = {{by_value, plain}, &runs, sizeof runs}, lent = {{in_place, plain}, &runs, sizeof runs};
 
-static const struct row accepted[][2] = {
-    {{"feed 0 bytes, by value", 0, 40000, {0, 0}}, {"feed 0 bytes, in place", 0, 40000, {0, 0}}},
-    {{"feed 1 byte, by value", 1, 20000, {0, 0}}, {"feed 1 byte, in place", 1, 20000, {0, 0}}},
-    {{"feed 32 bytes, by value", 32, 4000, {0, 0}}, {"feed 32 bytes, in place", 32, 4000, {0, 0}}},
-    {{"feed 1,024 bytes, by value", LONGEST, 400, {0, 0}}, {"feed 1,024 bytes, in place", LONGEST, 400, {0, 0}}},
+static const struct {
+    struct row row;
+    const struct peers *peers;
+} accepted[] = {
+    {{"feed 0 bytes, by value", 0, 40000, {0, 0}}, &copied},
+    {{"feed 1 byte, by value", 1, 20000, {0, 0}}, &copied},
+    {{"feed 32 bytes, by value", 32, 4000, {0, 0}}, &copied},
+    {{"feed 1,024 bytes, by value", LONGEST, 400, {0, 0}}, &copied},
+    {{"feed 0 bytes, in place", 0, 40000, {0, 0}}, &lent},
+    {{"feed 1 byte, in place", 1, 20000, {0, 0}}, &lent},
+    {{"feed 7 bytes, in place", 7, 10000, {0, 0}}, &lent},
+    {{"feed 8 bytes, in place", 8, 10000, {0, 0}}, &lent},
+    {{"feed 16 bytes, in place", 16, 10000, {0, 0}}, &lent},
+    {{"feed 31 bytes, in place", 31, 8000, {0, 0}}, &lent},
+    {{"feed 32 bytes, in place", 32, 8000, {0, 0}}, &lent},
+    {{"feed 33 bytes, in place", 33, 8000, {0, 0}}, &lent},
+    {{"feed 1,024 bytes, in place", LONGEST, 400, {0, 0}}, &lent},
 };
 static const struct row refused[2] = {{"feed refused, by value", 0, 40000, {0, 0}}, {"feed refused, in place", 0, 40000, {0, 0}}};
 
@@ -35,21 +47,18 @@ static void all_agree(void) {
     for (ticket = 0; ticket <= OPEN + 1; ticket++) {
         for (size_t n = 0; n <= 100; n++) {
             const struct row row = {"hub", n, (int)(n % 5), {0, 0}};
-            for (int way = 0; way < 2; way++) agree(&row, &ways[way]);
+            agree(&row, &copied);
+            agree(&row, &lent);
         }
     }
-}
-
-/* By value, and in place. */
-static void add_rows(const struct row rows[2], int pairs) {
-    for (int way = 0; way < 2; way++) compare(&rows[way], &ways[way], pairs);
 }
 
 void hub_rows(int pairs) {
     fill(bytes, sizeof bytes);
     all_agree();
     ticket = OPEN / 2;
-    for (size_t i = 0; i < sizeof accepted / sizeof *accepted; i++) add_rows(accepted[i], pairs);
+    for (size_t i = 0; i < sizeof accepted / sizeof *accepted; i++) compare(&accepted[i].row, accepted[i].peers, pairs);
     ticket = OPEN + 1;
-    add_rows(refused, pairs);
+    compare(&refused[0], &copied, pairs);
+    compare(&refused[1], &lent, pairs);
 }

@@ -49,6 +49,14 @@ uint64_t bench_verify_runs(const uint8_t *key, size_t key_length, const uint8_t 
 uint64_t bench_feeds_by_value(uint32_t ticket, const uint8_t *bytes, size_t length, size_t times);
 uint64_t bench_feeds_in_place(uint32_t ticket, const uint8_t *bytes, size_t length, size_t times);
 
+/* Opens ticket 1 of a mode under a key in an empty hub; feeds it the message in three parts, the first of `first` bytes and the second of `second`, where a number
+ * past the end is the end, in a hub that stays in its memory; draws `out_length` bytes into `out`; and gives the run count that the draw answers with.
+ * By document 01's checks modes 1 and 2 take a key of 16 bytes and modes 3 and 4 one of none, at most 16,777,216 bytes are fed, and of modes 1 and 4 at most
+ * 1,048,576 bytes are drawn, of mode 2 at most 16, of mode 3 at most 32. A feed that is refused is left out. Where the open or the draw is refused, the answer is 0,
+ * and nothing is written. */
+uint64_t bench_parts_in_place(const uint8_t *key, size_t key_length, const uint8_t *message, size_t message_length, uint8_t *out, size_t out_length,
+                              uint32_t mode, size_t first, size_t second);
+
 #ifdef __cplusplus
 }
 #endif

@@ -1,6 +1,7 @@
 /* See faulty.h. What is volatile keeps the compiler from leaving the fault out. */
 #include "faulty.h"
 
+#include "bench.h"
 #include "plain.h"
 #include "sign.h"
 
@@ -41,4 +42,10 @@ uint32_t read_outside(const uint8_t *key, size_t key_length, const uint8_t *fram
 uint32_t write_outside(const uint8_t *key, size_t key_length, uint8_t *frame, size_t frame_length, size_t body) {
     frame[frame_length] = 0;
     return ascon_seal_frame(key, key_length, frame, frame_length, body);
+}
+
+uint64_t branch_on_part(const uint8_t *key, size_t key_length, const uint8_t *message, size_t message_length, uint8_t *out, size_t out_length,
+                        uint32_t mode, size_t first, size_t second) {
+    if (second > 0 && first < message_length && message[first] > 100) store = 1;
+    return bench_parts_in_place(key, key_length, message, message_length, out, out_length, mode, first, second);
 }

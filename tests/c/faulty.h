@@ -1,4 +1,4 @@
-/* Functions of include/sign.h that answer and write what they should, and have a fault that tests/c/secrets.c must find: otherwise it could find none. */
+/* Functions of include/sign.h and include/bench.h that answer and write what they should, and have a fault that tests/c/secrets.c must find: otherwise it could find none. */
 #ifndef FAULTY_H
 #define FAULTY_H
 
@@ -18,5 +18,9 @@ uint32_t early_exit(const uint8_t *key, size_t key_length, const uint8_t *frame,
 /* A byte read after the frame's last, and one written. */
 uint32_t read_outside(const uint8_t *key, size_t key_length, const uint8_t *frame, size_t frame_length, size_t body);
 uint32_t write_outside(const uint8_t *key, size_t key_length, uint8_t *frame, size_t frame_length, size_t body);
+
+/* A branch by the first byte of a message's second part. */
+uint64_t branch_on_part(const uint8_t *key, size_t key_length, const uint8_t *message, size_t message_length, uint8_t *out, size_t out_length,
+                        uint32_t mode, size_t first, size_t second);
 
 #endif

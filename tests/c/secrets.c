@@ -28,15 +28,17 @@ enum { PUBLIC = 0x00, SECRET = 0xff };
 typedef uint32_t short_function(const uint8_t *, size_t, const uint8_t *, size_t, uint8_t *, size_t, size_t);
 typedef uint32_t sealing(const uint8_t *, size_t, uint8_t *, size_t, size_t);
 typedef uint32_t judging(const uint8_t *, size_t, const uint8_t *, size_t, size_t);
+typedef uint64_t feeding(const uint8_t *, size_t, const uint8_t *, size_t, uint8_t *, size_t, uint32_t, size_t, size_t);
 
 struct functions {
     short_function *prf_short;
     sealing *seal;
     judging *verify;
+    feeding *parts;
 };
 
 /* Those that are tested. */
-static struct functions tested = {ascon_prf_short, ascon_seal_frame, ascon_verify_frame};
+static struct functions tested = {ascon_prf_short, ascon_seal_frame, ascon_verify_frame, bench_parts_in_place};
 
 static const size_t bodies[] = {0, 1, 7, 8, 15, 16, 31, 32, 33, 63, 64, 65, 100, 1000};
 enum { BODIES = sizeof bodies / sizeof *bodies };
@@ -208,20 +210,26 @@ static void permuted_states(void) {
     }
 }
 
+/* The MAC (mode 2) or the hash (3) of n bytes, of which the first part had so many, and the runs made. */
+static void expect_output(uint32_t mode, size_t n, size_t first, uint8_t *out, uint64_t runs) {
+    uint8_t expected[32];
+    size_t t = mode == 2 ? 16 : 32;
+    expect(marked(&runs, sizeof runs, PUBLIC), mode == 2 ? "a MAC's runs depend on a secret" : "a hash's runs depend on a secret", n, first);
+    /* Of no bytes the hash, which takes no key, is public. */
+    expect(marked(out, t, mode == 3 && n == 0 ? PUBLIC : SECRET), mode == 2 ? "a MAC that does not depend on the secrets" : "a hash that does not depend on the secrets", n, first);
+    reveal(out, t);
+    uint64_t right = mode == 2 ? plain_mac(key, message, n, expected) : plain_hash(message, n, expected);
+    expect(runs == right && memcmp(out, expected, t) == 0, mode == 2 ? "MAC" : "hash", n, first);
+}
+
 /* The hash and the MAC of a message in two parts, drawn in two. */
 static void sponges(void) {
-    uint8_t expected[32];
     for (size_t i = 0; i < BODIES; i++) {
         for (uint32_t mode = 2; mode <= 3; mode++) {
             size_t n = bodies[i], t = mode == 2 ? 16 : 32;
             uint8_t *k = secret(key, 16), *in = secret(message, n), *out = block(message, t);
             uint64_t runs = bench_sponge(k, 16, in, n, out, t, mode, n / 3, t / 3);
-            expect(marked(&runs, sizeof runs, PUBLIC), "a run count depends on a secret", mode, n);
-            /* Of no bytes the hash, which takes no key, is public. */
-            expect(marked(out, t, mode == 3 && n == 0 ? PUBLIC : SECRET), "an output that does not depend on the secrets", mode, n);
-            reveal(out, t);
-            uint64_t right = mode == 2 ? plain_mac(key, message, n, expected) : plain_hash(message, n, expected);
-            expect(runs == right && memcmp(out, expected, t) == 0, "sponge", mode, n);
+            expect_output(mode, n, n / 3, out, runs);
             free(k);
             free(in);
             free(out);
@@ -229,14 +237,40 @@ static void sponges(void) {
     }
 }
 
+static void fed_often(size_t n) {
+    uint8_t *in = secret(message, n);
+    uint64_t by_value = bench_feeds_by_value(5, in, n, 3), in_place = bench_feeds_in_place(5, in, n, 3);
+    expect(marked(&by_value, sizeof by_value, PUBLIC) && marked(&in_place, sizeof in_place, PUBLIC), "a run count depends on a secret", n, 0);
+    expect(by_value == plain_feeds(5, message, n, 3) && in_place == by_value, "feeds", n, 0);
+    free(in);
+}
+
 static void feeds(void) {
+    for (size_t n = 0; n <= 40; n++) fed_often(n);
     for (size_t i = 0; i < BODIES; i++) {
-        size_t n = bodies[i];
-        uint8_t *in = secret(message, n);
-        uint64_t by_value = bench_feeds_by_value(5, in, n, 3), in_place = bench_feeds_in_place(5, in, n, 3);
-        expect(marked(&by_value, sizeof by_value, PUBLIC) && marked(&in_place, sizeof in_place, PUBLIC), "a run count depends on a secret", n, 0);
-        expect(by_value == plain_feeds(5, message, n, 3) && in_place == by_value, "feeds", n, 0);
-        free(in);
+        if (bodies[i] > 40) fed_often(bodies[i]);
+    }
+}
+
+static void fed_in_parts(uint32_t mode, size_t first, size_t second, size_t rest) {
+    size_t n = first + second + rest, t = mode == 2 ? 16 : 32, key_length = mode == 2 ? 16 : 0;
+    uint8_t *k = secret(key, key_length), *in = secret(message, n), *out = block(message, t);
+    uint64_t runs = tested.parts(k, key_length, in, n, out, t, mode, first, second);
+    expect_output(mode, n, first, out, runs);
+    free(k);
+    free(in);
+    free(out);
+}
+
+/* The MAC and the hash of messages whose parts are short. */
+static void parts_in_place(void) {
+    for (size_t first = 0; first <= 33; first++) {
+        for (size_t second = 0; second <= 9; second++) {
+            for (size_t rest = 0; rest <= 5; rest += 5) {
+                fed_in_parts(2, first, second, rest);
+                fed_in_parts(3, first, second, rest);
+            }
+        }
     }
 }
 
@@ -256,6 +290,7 @@ static const struct {
     {"permuted_states", permuted_states},
     {"sponges", sponges},
     {"feeds", feeds},
+    {"parts_in_place", parts_in_place},
 };
 
 static const struct {
@@ -263,12 +298,13 @@ static const struct {
     struct functions functions;
     void (*run)(void);
 } faults[] = {
-    {"lookup_by_key", {lookup_by_key, ascon_seal_frame, ascon_verify_frame}, short_calls},
-    {"branch_on_message", {branch_on_message, ascon_seal_frame, ascon_verify_frame}, short_calls},
-    {"branch_on_state", {ascon_prf_short, branch_on_state, ascon_verify_frame}, sealed_frames},
-    {"write_outside", {ascon_prf_short, write_outside, ascon_verify_frame}, sealed_frames},
-    {"early_exit", {ascon_prf_short, ascon_seal_frame, early_exit}, judged_frames},
-    {"read_outside", {ascon_prf_short, ascon_seal_frame, read_outside}, judged_frames},
+    {"lookup_by_key", {lookup_by_key, ascon_seal_frame, ascon_verify_frame, bench_parts_in_place}, short_calls},
+    {"branch_on_message", {branch_on_message, ascon_seal_frame, ascon_verify_frame, bench_parts_in_place}, short_calls},
+    {"branch_on_state", {ascon_prf_short, branch_on_state, ascon_verify_frame, bench_parts_in_place}, sealed_frames},
+    {"write_outside", {ascon_prf_short, write_outside, ascon_verify_frame, bench_parts_in_place}, sealed_frames},
+    {"early_exit", {ascon_prf_short, ascon_seal_frame, early_exit, bench_parts_in_place}, judged_frames},
+    {"read_outside", {ascon_prf_short, ascon_seal_frame, read_outside, bench_parts_in_place}, judged_frames},
+    {"branch_on_part", {ascon_prf_short, ascon_seal_frame, ascon_verify_frame, branch_on_part}, parts_in_place},
 };
 
 static int passed, failed;

@@ -1,10 +1,10 @@
-// Feeds through the hub, again and again, as C calls them: by value and in place.
+// Feeds through the hub, as C calls them: the same bytes again and again, by value and in place, and a message in three parts, in place.
 use hub::Hub;
 ghost use mathlib.Core.Path.{_≡_};
 ghost use mathlib.Core.List.{[]};
 ghost use lib.ListN.{replicate};
 ghost use Rattle.calls.specs.Call.{Feed, final};
-ghost use Rattle.hub.specs.Hub.{feedHub, onHub};
+ghost use Rattle.hub.specs.Hub.{emptyHub, openHub, feedHub, onHub};
 ghost use Rattle.bench.specs.Feeds as spec;
 
 // Sixteen MAC tickets under a key of zeros.
@@ -61,4 +61,51 @@ pub extern "C" fn bench_feeds_in_place(ticket: u32, bytes: &[u8], times: usize) 
         controller::feed_often(sixteen(), ticket, bytes, times),
         ticket,
     )
+}
+
+// Ticket 1 is fed a message in two parts, in place. A cut past its end is one at its end.
+fn feed_in_two(hub: Hub, message: &[u8], cut: usize) -> Hub
+    ensures { λ r. ⌜ r ≡ final onHub hub (spec.feedInTwo cut (now (message .entry))) ⌝ }
+{
+    let middle = state::shorter(cut, message.len());
+    let begun = controller::feed_often(hub, 1, &message[..middle], 1);
+    controller::feed_often(begun, 1, &message[middle..], 1)
+}
+
+// And in three.
+fn feed_in_three(hub: Hub, message: &[u8], first: usize, second: usize) -> Hub
+    ensures { λ r. ⌜ r ≡ final onHub hub (spec.feedInThree first second (now (message .entry))) ⌝ }
+{
+    let middle = state::shorter(first, message.len());
+    let begun = controller::feed_often(hub, 1, &message[..middle], 1);
+    feed_in_two(begun, &message[middle..], second)
+}
+
+// A hub with one ticket, of that mode and under that key, or with none where that is refused.
+fn opened(mode: u32, key: &[u8]) -> Hub
+    ensures { λ r. ⌜ r ≡ openHub mode (now (key .entry)) emptyHub .after ⌝ }
+{
+    let reply = hub::open(Hub::empty(), mode, key);
+    reply.hub
+}
+
+// The output of a mode for a message, as much as is lent, and how many runs were made: by ticket 1 of an empty hub, which is fed the message in three parts, in
+// place. Where the draw is refused, as it is where the open was, the answer is 0, and nothing is written.
+#[no_mangle]
+pub extern "C" fn bench_parts_in_place(
+    key: &[u8],
+    message: &[u8],
+    out: &mut [u8],
+    mode: u32,
+    first: usize,
+    second: usize,
+) -> u64
+    ensures answer { λ r. ⌜ r ≡ spec.drawnOfParts mode (now (key .entry)) (now (message .entry)) (now (out .entry)) first second .answer .runs ⌝ }
+    ensures after { λ r. ⌜ now (out .exit) ≡ spec.drawnOfParts mode (now (key .entry)) (now (message .entry)) (now (out .entry)) first second .buffer ⌝ }
+{
+    let fed = feed_in_three(opened(mode, key), message, first, second);
+    let count = out.len();
+    let reply = hub::draw(fed, 1, out, 0, count);
+    let answer = reply.answer;
+    answer.runs
 }

@@ -1,10 +1,12 @@
 -- What a call makes of its ticket's record, by which of its checks fails first.
 -- Assumes nothing.
 use mathlib.Core.Bool.{true, false, not, _||_}
-use mathlib.Core.Path.{_≡_, refl}
+use mathlib.Core.Path.{_≡_, refl, sym, ap, _∙_}
 use mathlib.Core.List.{List, [], _∷_}
 use mathlib.Core.Logic.{_≢_}
 use Prim.Native.Nat.{ℕ, _+_}
+use native.Mathlib.Decide.{ℕ-discrete}
+use native.Mathlib.Omega.{arith}
 use borrow.Author.Tests.{ne-eqb}
 use lib.Dec.{eqb, ltb}
 use lib.ListN.{length}
@@ -12,33 +14,54 @@ use Rattle.sponge.specs.declared.record.Record.{Record}
 use Rattle.mode.specs.Mode.{row, numberOf}
 use Rattle.sponge.specs.Record.{vacant, absorbed, finished, nextBytes, squeezed, tagMatches}
 use Rattle.calls.specs.Answer.{counted, judged}
+use Rattle.checks.specs.Checks.{checked}
 use Rattle.checks.specs.Buffers.{written}
 use Rattle.calls.specs.Checks.{mostFed, shortestTag, longestTag, feedOwn, drawOwn, checkOwn}
 use Rattle.calls.specs.Call.{Step, step, refuse}
-use Rattle.checks.proofs.Checks.{checked-each}
-use Rattle.hub.specs.Records.{standingAs, found, feedRecord, drawRecord, checkRecord, closeRecord}
+use Rattle.checks.proofs.Checks.{checked-each, refused-by-number, zero-passes, passed-done}
+use Rattle.hub.specs.Records.{standingAs, found, feedRefusal, workedOf, counting, feedRecord, drawRecord, checkRecord, closeRecord}
 
 module _ (n : ℕ) (r : Record) where
   -- ---- feed
 
   module _ (bytes : List ℕ) where
-    pub feed-found : n ≢ 0 → feedRecord n bytes r ≡ refuse r [] n
-    unfolding feedRecord
+    pub feed-found : n ≢ 0 → feedRefusal n bytes r ≡ n
+    unfolding feedRefusal
     feed-found e = rw (ne-eqb n 0 e)
 
     module _ (e : n ≡ 0) where
-      pub feed-15 : not (r .feeding) ≡ true → feedRecord n bytes r ≡ refuse r [] 15
-      unfolding feedRecord feedOwn
+      pub feed-15 : not (r .feeding) ≡ true → feedRefusal n bytes r ≡ 15
+      unfolding feedRefusal feedOwn
       feed-15 e15 = rw (e, e15)
 
-      pub feed-16 : not (r .feeding) ≡ false → ltb mostFed (r .fed + length bytes) ≡ true → feedRecord n bytes r ≡ refuse r [] 16
-      unfolding feedRecord feedOwn
+      pub feed-16 : not (r .feeding) ≡ false → ltb mostFed (r .fed + length bytes) ≡ true → feedRefusal n bytes r ≡ 16
+      unfolding feedRefusal feedOwn
       feed-16 e15 e16 = rw (e, e15, e16)
 
-      pub feed-done : not (r .feeding) ≡ false → ltb mostFed (r .fed + length bytes) ≡ false
-          → feedRecord n bytes r ≡ step (absorbed bytes r) (counted (absorbed bytes r .runs)) []
-      unfolding feedRecord feedOwn
-      feed-done e15 e16 = rw (e, e15, e16)
+      pub feed-passes : not (r .feeding) ≡ false → ltb mostFed (r .fed + length bytes) ≡ false → feedRefusal n bytes r ≡ 0
+      unfolding feedRefusal feedOwn
+      feed-passes e15 e16 = rw (e, e15, e16)
+
+    -- by that number, m
+    module _ (m : ℕ) (f : m ≡ feedRefusal n bytes r) where
+      pub feed-refused : m ≢ 0 → workedOf (refuse r [] m) ≡ workedOf (feedRecord n bytes r)
+      unfolding feedRecord feedRefusal
+      feed-refused h =
+          ap (λ (k : ℕ). workedOf (refuse r [] k)) f
+          ∙ ap workedOf (sym (refused-by-number (found n ∷ feedOwn (standingAs r) bytes) (refuse r []) (step (absorbed bytes r) (counted (absorbed bytes r .runs)) []) (λ z. h (f ∙ z))))
+
+      pub feed-done : m ≡ 0 → counting (absorbed bytes r) ≡ workedOf (feedRecord n bytes r)
+      unfolding feedRecord feedRefusal feedOwn
+      feed-done z = ap workedOf (sym (go (ℕ-discrete n 0)))
+        where
+          own : n ≡ 0 → checked (λ (k : ℕ). k) (feedOwn (standingAs r) bytes) 0 ≡ 0
+          own e = rw e at (sym f ∙ z)
+
+          go : Dec (n ≡ 0) → feedRecord n bytes r ≡ step (absorbed bytes r) (counted (absorbed bytes r .runs)) []
+          go (no d) = absurd (d (sym (feed-found d) ∙ sym f ∙ z))
+          go (yes e) =
+              rw e (passed-done (feedOwn (standingAs r) bytes) (refuse r []) (step (absorbed bytes r) (counted (absorbed bytes r .runs)) [])
+              (zero-passes (feedOwn (standingAs r) bytes) ((λ h. omega arith), ((λ h. omega arith), tt)) (own e)))
 
   -- ---- draw
 

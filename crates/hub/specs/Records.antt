@@ -42,6 +42,10 @@ standingAs r = record { issued = true; isOpen = true; mode = r .mode; feeding = 
 abbrev pub found : ℕ → OneCheck
 found n = refusal n (not (eqb n 0))
 
+-- feed's: the number of the first that fails, or 0
+unfoldable pub feedRefusal : ℕ → List ℕ → Record → ℕ
+feedRefusal n bytes r = checked (λ (k : ℕ). k) (found n ∷ feedOwn (standingAs r) bytes) 0
+
 unfoldable pub feedRecord : ℕ → List ℕ → Record → Step Record
 feedRecord n bytes r =
     let after : Record = absorbed bytes r in

@@ -3,7 +3,7 @@
 use super::Hub;
 use super::places::locate;
 use super::records::close_record;
-use super::records::feed_record;
+use super::records::feed_small;
 use calls::Answer;
 ghost use mathlib.Core.Path.{_≡_};
 ghost use Rattle.hub.specs.Hub.{feedHub, closeHub};
@@ -14,7 +14,7 @@ pub fn feed(hub: &mut Hub, ticket: u32, bytes: &[u8]) -> Answer
     ensures after { λ r. ⌜ now (hub .exit) ≡ feedHub ticket (now (bytes .entry)) (now (hub .entry)) .after ⌝ }
 {
     let located = locate(*hub, ticket);
-    let fed = feed_record(located.refusal, hub.records[located.place], bytes);
+    let fed = feed_small(located.refusal, hub.records[located.place], bytes);
     if fed.answer.refusal == 0 {
         hub.records[located.place] = fed.after;
     }

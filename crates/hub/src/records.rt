@@ -38,20 +38,43 @@ impl Worked {
     }
 }
 
-// Feed: 15, 16.
+// Feed's checks, 15 and 16: the number of the first that fails, or 0.
+fn feed_refusal(refusal: u32, before: Record, bytes: &[u8]) -> u32
+    ensures { λ r. ⌜ r ≡ spec.feedRefusal refusal (now (bytes .entry)) before ⌝ }
+{
+    if refusal != 0 {
+        return refusal;
+    }
+    if !before.feeding() {
+        return 15;
+    }
+    if checks::exceeds(Hub::MOST_FED, before.fed(), bytes.len() as u64) {
+        return 16;
+    }
+    0
+}
+
+// Feed.
 pub fn feed_record(refusal: u32, before: Record, bytes: &[u8]) -> Worked
     ensures { λ r. ⌜ r ≡ spec.workedOf (spec.feedRecord refusal (now (bytes .entry)) before) ⌝ }
 {
-    if refusal != 0 {
-        return Worked::refused(before, refusal);
-    }
-    if !before.feeding() {
-        return Worked::refused(before, 15);
-    }
-    if checks::exceeds(Hub::MOST_FED, before.fed(), bytes.len() as u64) {
-        return Worked::refused(before, 16);
+    let number = feed_refusal(refusal, before, bytes);
+    if number != 0 {
+        return Worked::refused(before, number);
     }
     Worked::counted(before.absorb(bytes))
+}
+
+// The same, and fast for a few bytes, for a hub that stays in its memory. It has to have one caller in a program: docs/ARCHITECTURE.md, "What keeps records in
+// registers".
+pub fn feed_small(refusal: u32, before: Record, bytes: &[u8]) -> Worked
+    ensures { λ r. ⌜ r ≡ spec.workedOf (spec.feedRecord refusal (now (bytes .entry)) before) ⌝ }
+{
+    let number = feed_refusal(refusal, before, bytes);
+    if number != 0 {
+        return Worked::refused(before, number);
+    }
+    Worked::counted(before.absorb_small(bytes))
 }
 
 // Draw: 3, 17.

@@ -1,7 +1,7 @@
 -- The calls of the main loop, round by round.
 -- Assumes nothing.
 use mathlib.Core.List.{List, [], _∷_}
-use Prim.Native.Nat.{ℕ, zero, suc, _/_, _%_}
+use Prim.Native.Nat.{ℕ, zero, suc, _*_, _/_, _%_}
 use lib.ListN.{replicate}
 use Rattle.calls.specs.Call.{Call, Open, Feed, Close, final}
 use Rattle.hub.specs.declared.Hub.{Hub}
@@ -20,7 +20,7 @@ abbrev pub feedTicket : ℕ → ℕ
 feedTicket i = i % 18
 
 abbrev pub closeTicket : ℕ → ℕ
-closeTicket i = i / 8 % 13
+closeTicket i = i / 16 * 3 % 13
 
 -- n rounds from number i on
 unfoldable pub roundsFrom : ℕ → ℕ → List ℕ → List Call

@@ -23,7 +23,7 @@ fn print_round(i: usize, fed: Answer, closed: Answer) {
     io::write_all(1, b"\n");
 }
 
-// ---- the rounds: each feeds the message to one ticket and closes another. Some tickets are never issued, and some are closed before.
+// ---- the rounds: each feeds a message to one ticket and closes another. Some tickets are never issued, and some are closed before.
 
 fn feed_ticket(i: usize) -> u32
     ensures { λ r. ⌜ r ≡ feedTicket i ⌝ }
@@ -34,7 +34,7 @@ fn feed_ticket(i: usize) -> u32
 fn close_ticket(i: usize) -> u32
     ensures { λ r. ⌜ r ≡ closeTicket i ⌝ }
 {
-    (i / 8 % 13) as u32
+    (i / 16 * 3 % 13) as u32
 }
 
 // The hub handed on by value.
@@ -107,16 +107,19 @@ fn draw(before: Hub, ticket: u32, count: usize) -> Hub
 }
 
 // An empty hub, eight PRF tickets and eight of the hash, one of which takes no more bytes.
-fn begin(key: &[u8], message: &[u8]) -> Hub
+fn begin(key: &[u8]) -> Hub
     ensures { λ r. ⌜ r ≡ sixteen (now (key .entry)) ⌝ }
 {
     io::write_all(1, b"empty\n");
     let opened = open_eight(open_eight(Hub::empty(), 1, key), 3, b"");
-    let hub = draw(opened, 14, 3);
+    draw(opened, 14, 3)
+}
+
+// The bytes that the lines of feeds call message from here on.
+fn print_message(message: &[u8]) {
     io::write_all(1, b"message");
     print_bytes(message);
     io::write_all(1, b"\n");
-    hub
 }
 
 // What each ticket gives, those that are closed and those that come now into their places among them, and the sum.
@@ -136,6 +139,9 @@ fn end(before: Hub, key: &[u8]) {
 const ROUNDS: usize = 150;
 
 const KEY: [u8; 16] = [0, 1, 2, 3, 4, 5, 6, 7, 8, 9, 10, 11, 12, 13, 14, 15];
+
+// Fewer bytes than a word has, which do not fill a block but with others: they begin at each of its places.
+const FEW: [u8; 3] = [129, 66, 36];
 
 const MESSAGE: [u8; 20] = [
     255,
@@ -162,15 +168,18 @@ const MESSAGE: [u8; 20] = [
 
 fn main() {
     let key = KEY;
+    let few = FEW;
     let message = MESSAGE;
     io::write_all(1, b"by value\n");
-    end(
-        serve_by_value(begin(&key, &message), &message, ROUNDS),
-        &key,
-    );
+    let begun = begin(&key);
+    print_message(&few);
+    let served = serve_by_value(begun, &few, ROUNDS);
+    print_message(&message);
+    end(serve_by_value(served, &message, ROUNDS), &key);
     io::write_all(1, b"in place\n");
-    end(
-        serve_in_place(begin(&key, &message), &message, ROUNDS),
-        &key,
-    );
+    let begun_again = begin(&key);
+    print_message(&few);
+    let served_again = serve_in_place(begun_again, &few, ROUNDS);
+    print_message(&message);
+    end(serve_in_place(served_again, &message, ROUNDS), &key);
 }

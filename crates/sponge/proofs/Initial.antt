@@ -5,8 +5,11 @@ use mathlib.Core.Path.{_≡_, refl, ap, _∙_}
 use mathlib.Core.List.{List, [], _∷_, _++_}
 use Prim.Native.Nat.{ℕ, _≤_}
 use native.Mathlib.Omega.{arith}
+use lib.Bits.{bitXor, xor-zero-r}
 use lib.ListN.{length, take, length-take}
-use Rattle.word.specs.Bytes.{bytesFrom, xorFrom, fromBytes, toBytes, zerosTo}
+use Rattle.word.specs.Bytes.{bytesFrom, xorFrom, window, fromBytes, toBytes, zerosTo}
+use Rattle.word.proofs.Arrays.{cons-same}
+use Rattle.word.proofs.Windows.{window-past, window-before, window-moved, xorFrom-words}
 use Rattle.word.proofs.Bytes.{Bytes, part-bytes, number-bytes}
 use Rattle.state.proofs.Starts.{start-read, start-xored}
 use Rattle.mode.specs.declared.Mode.{Mode}
@@ -28,8 +31,8 @@ start-number Mac = refl
 start-number Hash = refl
 start-number Xof = refl
 
--- what is taken of a key fits behind it
-key-fits : (mode : Mode) (key : List ℕ) → length (take (row mode .keyLength) key) ≤ 32
+-- what is taken of a key fits into the two words behind it
+key-fits : (mode : Mode) (key : List ℕ) → length (take (row mode .keyLength) key) ≤ 16
 unfolding row
 key-fits Prf key = omega (arith, length-take 16 key)
 key-fits Mac key = omega (arith, length-take 16 key)
@@ -43,8 +46,16 @@ module _ (mode : Mode) (key : List ℕ) (bytes : Bytes key) where
   abbrev used : List ℕ
   used = take (row mode .keyLength) key
 
-  pub initial-xored : initial (row mode) key ≡ xorFrom 8 used (row mode .startWord ∷ 0 ∷ 0 ∷ 0 ∷ 0 ∷ [])
+  initial-xored : initial (row mode) key ≡ xorFrom 8 used (row mode .startWord ∷ 0 ∷ 0 ∷ 0 ∷ 0 ∷ [])
   unfolding initial toBytes
   initial-xored =
-      start-xored value used refl (key-fits mode key) (number-bytes 8 (row mode .startWord)) (part-bytes (row mode .keyLength) 0 key bytes)
+      start-xored value used refl (omega (arith, key-fits mode key)) (number-bytes 8 (row mode .startWord)) (part-bytes (row mode .keyLength) 0 key bytes)
       ∙ ap (λ (x : ℕ). xorFrom 8 used (x ∷ 0 ∷ 0 ∷ 0 ∷ 0 ∷ [])) (start-number mode)
+
+  -- written out: the words of the key begin behind the start word
+  pub initial-words : initial (row mode) key ≡ row mode .startWord ∷ window 0 used 0 ∷ window 0 used 1 ∷ 0 ∷ 0 ∷ []
+  initial-words =
+      initial-xored ∙ xorFrom-words 5 used (row mode .startWord ∷ 0 ∷ 0 ∷ 0 ∷ 0 ∷ []) 8 refl
+      ∙ cons-same (ap (bitXor (row mode .startWord)) (window-past used 8 0 (omega arith)) ∙ xor-zero-r (row mode .startWord))
+      (cons-same (window-moved used 1 0 0) (cons-same (window-moved used 1 0 1)
+      (cons-same (window-before used 8 3 (omega (arith, key-fits mode key))) (cons-same (window-before used 8 4 (omega (arith, key-fits mode key))) refl))))

@@ -16,11 +16,11 @@ use lib.Seq.{drop-drop, length-take-le, take-at, take-all}
 use Rattle.word.specs.Bytes.{bytesFrom, byteAt, xorFrom}
 use Rattle.word.proofs.Bytes.{length-bytesFrom}
 use Rattle.sponge.specs.declared.record.Record.{Record}
-use Rattle.mode.specs.Mode.{Row}
-use Rattle.sponge.specs.Record.{afterRun, runIf, inWords, feedBytes, ready, drawnBytes, afterDrawing}
-use Rattle.sponge.specs.Parts.{filled, used}
+use Rattle.mode.specs.Mode.{Row, row}
+use Rattle.sponge.specs.Record.{sum64, withFed, afterRun, runIf, inWords, feedBytes, absorbed, ready, drawnBytes, afterDrawing}
+use Rattle.sponge.specs.Parts.{filled, afterFeed, used}
 use Rattle.sponge.proofs.Places.{suc-less, next-place, first-place, block-end}
-use Rattle.sponge.proofs.Feeding.{feedBytes-append, feed-part}
+use Rattle.sponge.proofs.Feeding.{feedBytes-append, feedBytes-core, feed-part}
 use Rattle.sponge.proofs.Drawing.{drawnBytes-add, afterDrawing-add}
 
 -- ---- feeding
@@ -40,6 +40,30 @@ pub feed-filled : (w : Row) (bs : List ℕ) (b n p : ℕ) (r : Record) → n % w
     → feedBytes w n (b ∷ bs) r ≡ filled w p (b ∷ bs) r
 unfolding filled
 feed-filled = feed-part
+
+-- all bytes of a feed
+pub absorbed-fed : (bs : List ℕ) (r : Record) → absorbed bs r ≡ afterFeed (feedBytes (row (r .mode)) (r .fed) bs r .words) (feedBytes (row (r .mode)) (r .fed) bs r .runs) (length bs) r
+unfolding absorbed afterFeed
+absorbed-fed bs r = ap (withFed (sum64 (r .fed) (length bs))) (feedBytes-core (row (r .mode)) bs (r .fed) r r)
+
+-- those of a feed that does not fill its block
+pub absorbed-few : (bs : List ℕ) (r : Record) (p : ℕ) → r .fed % row (r .mode) .feedRate ≡ p → p + length bs < row (r .mode) .feedRate
+    → absorbed bs r ≡ afterFeed (xorFrom p bs (r .words)) (r .runs) (length bs) r
+unfolding absorbed afterFeed feedBytes filled runIf inWords xorFrom
+absorbed-few [] r p e l = refl
+absorbed-few (b ∷ bs) r p e l =
+    let part : eqb (p + suc (length bs)) (row (r .mode) .feedRate) ≡ false = ne-eqb (p + suc (length bs)) (row (r .mode) .feedRate) (λ z. omega arith) in
+    let unfilled : filled (row (r .mode)) p (b ∷ bs) r ≡ inWords (xorFrom p (b ∷ bs)) r = rw part in
+    ap (withFed (sum64 (r .fed) (suc (length bs)))) (feed-filled (row (r .mode)) bs b (r .fed) p r e (omega arith) ∙ unfilled)
+
+-- a record with what feeding reads of r, and nothing of its other fields
+abbrev pub bare : Record → Record
+bare r = record { words = r .words; runs = r .runs; ticket = 0; mode = r .mode; fed = r .fed; drawn = 0; feeding = true }
+
+-- the words and the runs are those of that record after the same feed
+pub absorbed-bare : (bs : List ℕ) (r : Record) → absorbed bs r ≡ afterFeed (absorbed bs (bare r) .words) (absorbed bs (bare r) .runs) (length bs) r
+unfolding absorbed afterFeed
+absorbed-bare bs r = ap (withFed (sum64 (r .fed) (length bs))) (feedBytes-core (row (r .mode)) bs (r .fed) (bare r) r)
 
 -- the next k bytes of a list, which stay in the block of number n, and then what is left of it
 pub feed-next : (w : Row) (bs : List ℕ) (n i k p : ℕ) (r : Record) → (n + i) % w .feedRate ≡ p → p + k ≤ w .feedRate → 0 < k → i + k ≤ length bs

@@ -24,9 +24,6 @@ pub struct Record {
 }
 
 impl Record {
-    // The byte of the state at which the key begins: the one after the start word.
-    pub const KEY_PLACE: u32 = 8;
-
     // A place that no ticket has. Nothing of a state is in it.
     pub fn vacant() -> Record
         ensures { λ r. ⌜ r ≡ spec.vacant ⌝ }
@@ -47,8 +44,14 @@ impl Record {
         ensures { λ r. ⌜ r ≡ spec.fresh ticket mode (now (key .entry)) ⌝ }
     {
         let length = state::shorter(mode.key_length(), key.len());
-        let unkeyed = [mode.start_word(), 0, 0, 0, 0];
-        let initial = state::xor_bytes(unkeyed, Record::KEY_PLACE, &key[..length]);
+        let used = &key[..length];
+        let initial = [
+            mode.start_word(),
+            state::word_of_bytes(used, 0),
+            state::word_of_bytes(used, 1),
+            0,
+            0,
+        ];
         let before = Record {
             words: initial,
             runs: 0,

@@ -139,7 +139,8 @@ fn window(k: usize, bytes: &[u8], j: usize) -> u64
     window_part(k, bytes, start)
 }
 
-// The same for a word that begins at byte start and has some of the bytes, one byte at a time.
+// The same for a word that begins at byte start and has some of the bytes: the number that these make, moved to where they stand. They are at most seven, for which
+// sums, one after the other, take less time than the vectors that the compiler makes of xors.
 fn window_part(k: usize, bytes: &[u8], start: usize) -> u64
     requires { ⌜ (k < 2 ^ 32) × (start < 2 ^ 63) × (start % 8 ≡ 0) × (k < start + 8) × (start < k + length (now bytes)) ⌝ }
     ensures { λ r. ⌜ r ≡ spec.window k (now (bytes .entry)) (start / 8) ⌝ }
@@ -148,10 +149,10 @@ fn window_part(k: usize, bytes: &[u8], start: usize) -> u64
     let mut i = excess(start, k);
     let mut x = 0;
     while i < end {
-        x = x ^ (wide(bytes[i]) << (8 * (7 - (k + i) % 8)));
+        x = x * 256 + wide(bytes[i]);
         i += 1;
     }
-    x
+    x << (8 * (start + 8 - k - end))
 }
 
 // Word j of the words that bytes make, zeros standing after the last byte.
@@ -176,6 +177,17 @@ pub fn xor_bytes(words: [u64; 5], place: u32, bytes: &[u8]) -> [u64; 5]
         words[3] ^ window(k, bytes, 3),
         words[4] ^ window(k, bytes, 4),
     ]
+}
+
+// The eight bytes of x xored in from a place on: they stand in one word, or in two.
+pub fn xor_word_at(words: [u64; 5], place: u32, x: u64) -> [u64; 5]
+    ensures { λ r. ⌜ r ≡ spec.xorFrom place (spec.toBytes 8 x) words ⌝ }
+{
+    let k = place as usize;
+    let shift = 8 * (k % 8);
+    let first = xor_word(words, k / 8, x >> shift);
+    // By 64 - shift places, in two steps, as a shift by 64 is undefined.
+    xor_word(first, k / 8 + 1, (x << (56 - shift)) << 8)
 }
 
 // Word j of the bytes' whole words; 0 past the last.

@@ -5,13 +5,13 @@ use mathlib.Core.Path.{_≡_, refl, sym, ap, ap₂, _∙_, subst}
 use mathlib.Core.Bool.{true}
 use mathlib.Core.List.{List, [], _∷_, _++_}
 use Prim.Native.Nat.{ℕ, zero, suc, _+_, _-_, _*_, _/_, _%_, _^_, _≤_, _<_}
-use native.Mathlib.Nat.{mod-lt, add-suc, add-zero, zero-add, suc-add, zero-mul, zero-lt-suc, not-suc-le-zero, le-of-suc-le-suc}
+use native.Mathlib.Nat.{mod-lt, add-mul, add-suc, add-zero, zero-add, suc-add, mul-assoc, zero-mul, zero-lt-suc, not-suc-le-zero, le-of-suc-le-suc}
 use native.Mathlib.Omega.{arith}
 use borrow.Author.Tests.{eq-eqb}
 use lib.Arith.{bin-ind, digits-lt}
 use lib.Bits.{bitXor, bitOr, differ, xor-step, xor-shr, xor-mod, xor-shifted, xor-zero-r, or-shifted}
 use lib.Dec.{eqb}
-use lib.Pow.{pow-add, shl-exact}
+use lib.Pow.{pow-add, shl-lt, shl-exact}
 use lib.ListN.{length, getD, take, drop, replicate}
 use lib.Seq.{set-getD, getD-drop, take-at, ext-getD}
 use Rattle.word.specs.Bytes.{weight, byteAt, bytesFrom, xorWord, xorAt, xorFrom, window, fromBytes, toBytes}
@@ -45,6 +45,12 @@ xor-assoc =
     ∙ ap₂ (λ (x y : ℕ). x * 2 + y) (ih (b / 2) (c / 2)) (bit-assoc (n % 2) (b % 2) (c % 2) (low-bit n) (low-bit b) (low-bit c))
     ∙ sym (ap₂ (λ (x y : ℕ). bitXor (n / 2) x * 2 + differ (n % 2) y) (xor-shr b c 1) (xor-mod b c 1))
     ∙ sym (xor-step n (bitXor b c)))
+
+-- a number a and p lower bits, with q bits behind them
+pub xor-joined : (a l p q : ℕ) → l < 2 ^ p → bitXor (a * 2 ^ (p + q)) (l * 2 ^ q) ≡ (a * 2 ^ p + l) * 2 ^ q
+xor-joined a l p q h =
+    xor-shifted a (p + q) (l * 2 ^ q) (shl-lt p q h)
+    ∙ ap (λ (s : ℕ). s + l * 2 ^ q) (ap (λ (s : ℕ). a * s) (pow-add 2 p q) ∙ sym (mul-assoc a (2 ^ p) (2 ^ q))) ∙ sym (add-mul (a * 2 ^ p) l (2 ^ q))
 
 -- ---- numbers of bytes
 
@@ -104,10 +110,10 @@ fromBytes-by-shifts (b ∷ c ∷ bs) h k =
 
 -- ---- byte 8 * j + i of some words, which n more of its word follow
 
-in-word : (j i n : ℕ) → i + suc n ≡ 8 → (8 * j + i) / 8 ≡ j
+pub in-word : (j i n : ℕ) → i + suc n ≡ 8 → (8 * j + i) / 8 ≡ j
 in-word j i n e = omega arith
 
-weight-in : (j i n : ℕ) → i + suc n ≡ 8 → weight (8 * j + i) ≡ 2 ^ (8 * n)
+pub weight-in : (j i n : ℕ) → i + suc n ≡ 8 → weight (8 * j + i) ≡ 2 ^ (8 * n)
 unfolding weight
 weight-in j i n e =
     let places : 8 * (7 - (8 * j + i) % 8) ≡ 8 * n = omega arith in
@@ -144,10 +150,14 @@ unfolding xorFrom
 xorFrom-append [] b k ws = rw add-zero
 xorFrom-append (x ∷ a) b k ws = xorFrom-append a b (suc k) (xorAt k x ws) ∙ rw (suc-add, add-suc)
 
--- zero bytes change nothing
+-- zero changes nothing, and nor do zero bytes
+pub xorWord-zero : (j : ℕ) (ws : List ℕ) → xorWord j 0 ws ≡ ws
+unfolding xorWord
+xorWord-zero j ws = simp (xor-zero-r, set-getD)
+
 xorAt-by-zero : (k : ℕ) (ws : List ℕ) → xorAt k 0 ws ≡ ws
-unfolding xorAt xorWord
-xorAt-by-zero k ws = simp (zero-mul, xor-zero-r, set-getD)
+unfolding xorAt
+xorAt-by-zero k ws = rw zero-mul (xorWord-zero (k / 8) ws)
 
 pub xorFrom-zeros : (n k : ℕ) (ws : List ℕ) → xorFrom k (replicate n 0) ws ≡ ws
 unfolding xorFrom

@@ -7,3 +7,4 @@ pub mod Lists
 pub mod Bytes
 pub mod Windows
 pub mod Xored
+pub mod WordAt

@@ -27,6 +27,11 @@ take-min zero l = rw zero-min
 take-min (suc n) [] = rw min-zero
 take-min (suc n) (x ∷ l) = rw suc-min-suc (ap (λ (t : List ℕ). x ∷ t) (take-min n l))
 
+pub drop-min : (n : ℕ) (l : List ℕ) → drop (min n (length l)) l ≡ drop n l
+drop-min zero l = rw zero-min
+drop-min (suc n) [] = rw min-zero
+drop-min (suc n) (x ∷ l) = rw suc-min-suc (drop-min n l)
+
 -- ---- zeros
 
 pub zeros-at : (n i : ℕ) → getD {A = ℕ} (replicate n 0) i 0 ≡ 0

@@ -1,21 +1,23 @@
 -- Bytes xored into words, word by word: word j is xored with the number that the bytes make in it, its window.
 -- Assumes nothing.
 use mathlib.Core.Bool.{cond}
-use mathlib.Core.Path.{_≡_, refl, sym, ap, ap₂, _∙_}
+use mathlib.Core.Path.{_≡_, refl, sym, ap, ap₂, _∙_, subst}
 use mathlib.Core.List.{List, [], _∷_, _++_}
-use Prim.Native.Nat.{ℕ, zero, suc, _+_, _-_, _*_, _/_, _%_, _≤_, _<_}
+use Prim.Native.Nat.{ℕ, zero, suc, _+_, _-_, _*_, _/_, _%_, _^_, _≤_, _<_}
 use native.Mathlib.Decide.{decLt, ℕ-discrete}
 use native.Mathlib.Nat.{add-zero, add-suc, suc-add, sub-zero}
 use native.Mathlib.Omega.{arith}
 use borrow.Author.Tests.{eq-eqb, ne-eqb}
+use lib.Arith.{digits-lt}
 use lib.Bits.{bitXor, xor-zero-r}
 use lib.Dec.{eqb}
 use lib.ListN.{length, getD, set, take, drop, replicate, drop-of-length-le, length-set, length-drop, length-replicate, take-append-drop}
+use lib.Pow.{pow-add}
 use lib.Seq.{getD-set-same, getD-set-other, drop-cons, drop-drop, length-take-le}
 use Rattle.word.specs.Bytes.{weight, xorWord, xorAt, xorFrom, window, fromBytes, wordsOf}
 use Rattle.word.proofs.Arrays.{listed, listed-same, written-out}
 use Rattle.word.proofs.Lists.{zeros-at}
-use Rattle.word.proofs.Bytes.{xor-assoc, Bytes, part-bytes, window-word}
+use Rattle.word.proofs.Bytes.{xor-assoc, xor-joined, Bytes, part-bytes, window-word}
 
 -- ---- windows
 
@@ -78,6 +80,15 @@ window-next bs k i j h e =
     let next : k + (i + 1) ≡ suc (k + i) = omega arith in
     let one : i + 1 ≡ suc i = omega arith in
     rw (drop-cons bs i 0 h, next, one, eq-eqb ((k + i) / 8) j e)
+
+-- a number of p bytes and one byte more: how large it is, and what it makes where q bits follow it
+pub next-byte-lt : (x b p : ℕ) → x < 2 ^ (8 * p) → b < 256 → x * 256 + b < 2 ^ (8 * suc p)
+next-byte-lt x b p h l =
+    let places : 8 * suc p ≡ 8 * p + 8 = omega arith in
+    subst (λ (y : ℕ). x * 256 + b < y) (sym (ap (λ (n : ℕ). 2 ^ n) places ∙ pow-add 2 (8 * p) 8)) (digits-lt h l)
+
+pub next-byte-xor : (x b q w : ℕ) → b < 256 → bitXor ((x * 256 + b) * 2 ^ q) w ≡ bitXor (x * 2 ^ (8 + q)) (bitXor (b * 2 ^ q) w)
+next-byte-xor x b q w l = ap (λ (y : ℕ). bitXor y w) (sym (xor-joined x b 8 q l)) ∙ xor-assoc (x * 2 ^ (8 + q)) (b * 2 ^ q) w
 
 -- bytes that stand i words further on make the same numbers i words further on
 pub window-moved : (bs : List ℕ) (i k j : ℕ) → window (8 * i + k) bs (i + j) ≡ window k bs j

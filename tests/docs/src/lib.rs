@@ -35,6 +35,25 @@ pub fn crates() -> Vec<String> {
         .collect()
 }
 
+/// The lines of a crate's code that are not comments.
+pub fn code(name: &str) -> Vec<String> {
+    let mut lines = Vec::new();
+    let mut folders = vec![root().join("crates").join(name).join("src")];
+    while let Some(folder) = folders.pop() {
+        for entry in fs::read_dir(folder).unwrap() {
+            let path = entry.unwrap().path();
+            if path.is_dir() {
+                folders.push(path);
+            } else {
+                let text = fs::read_to_string(path).unwrap();
+                let code = text.lines().filter(|line| !is_comment(line));
+                lines.extend(code.map(str::to_owned));
+            }
+        }
+    }
+    lines
+}
+
 fn is_part_of_a_word(c: char) -> bool {
     c.is_alphanumeric() || "_-′".contains(c)
 }

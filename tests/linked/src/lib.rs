@@ -11,6 +11,7 @@ extern "C" {
     fn bench_verify_runs(key: *const u8, key_length: usize, frame: *const u8, frame_length: usize, body: usize) -> u64;
     fn bench_feeds_by_value(ticket: u32, bytes: *const u8, length: usize, times: usize) -> u64;
     fn bench_feeds_in_place(ticket: u32, bytes: *const u8, length: usize, times: usize) -> u64;
+    fn bench_parts_in_place(key: *const u8, key_length: usize, message: *const u8, message_length: usize, out: *mut u8, out_length: usize, mode: u32, first: usize, second: usize) -> u64;
     fn ascon_prf_short(key: *const u8, key_length: usize, message: *const u8, message_length: usize, out: *mut u8, out_length: usize, length: usize) -> u32;
     fn ascon_seal_frame(key: *const u8, key_length: usize, frame: *mut u8, frame_length: usize, body: usize) -> u32;
     fn ascon_verify_frame(key: *const u8, key_length: usize, frame: *const u8, frame_length: usize, body: usize) -> u32;
@@ -78,6 +79,31 @@ pub fn feeds_by_value(ticket: u32, bytes: &[u8], times: usize) -> u64 {
 pub fn feeds_in_place(ticket: u32, bytes: &[u8], times: usize) -> u64 {
     // SAFETY: the slice is valid for its length, and its pointer is not null.
     unsafe { bench_feeds_in_place(ticket, bytes.as_ptr(), bytes.len(), times) }
+}
+
+/// The output of a ticket of a mode for a message, as much as is lent, and the runs made: the message is fed in three parts, in place. 0 where it is refused.
+pub fn parts_in_place(
+    mode: u32,
+    key: &[u8],
+    message: &[u8],
+    first: usize,
+    second: usize,
+    out: &mut [u8],
+) -> u64 {
+    // SAFETY: each pointer and the length after it are those of one slice, lent for the call alone; out is lent to it alone.
+    unsafe {
+        bench_parts_in_place(
+            key.as_ptr(),
+            key.len(),
+            message.as_ptr(),
+            message.len(),
+            out.as_mut_ptr(),
+            out.len(),
+            mode,
+            first,
+            second,
+        )
+    }
 }
 
 /// The short function, an output of so many bytes for a message under a key: 0, or the refusal.

@@ -1,6 +1,8 @@
-//! Feeds through the hub, by value and in place, beside the plain machine.
-use linked::{feeds_by_value, feeds_in_place};
+//! Feeds through the hub: run counts, by value and in place, beside the plain machine; and messages in parts, in place, beside the one-shot reference.
+use linked::{feeds_by_value, feeds_in_place, parts_in_place};
 use reference::machine::{Call, Machine};
+use reference::numbers::Numbers;
+use reference::{permute, sponge, Mode, HASH, KEY, MAC, MODES};
 
 /// What the plain machine answers a feed of no bytes with, after the same calls.
 fn expected(ticket: u32, bytes: &[u8], times: usize) -> u64 {
@@ -56,6 +58,121 @@ fn the_count_stops_at_the_limit() {
             assert_eq!(right, 1 + (length * full / 32) as u64);
             assert_eq!(feeds_by_value(5, &bytes[..length], times), right);
             assert_eq!(feeds_in_place(5, &bytes[..length], times), right);
+        }
+    }
+}
+
+/// Holds a message that is fed in place, in parts of so many bytes and a rest, against the reference's output and the formula.
+fn assert_parts(mode: &Mode, message: &[u8], parts: impl IntoIterator<Item = (usize, usize)>) {
+    let drawn = mode.most_drawn.min(40);
+    let (output, runs) = sponge(permute, mode, &KEY, message, drawn);
+    assert_eq!(runs, mode.runs(message.len(), Some(drawn)));
+    let key = mode.given(&KEY);
+    for (first, second) in parts {
+        let mut out = vec![0xa5; drawn];
+        let answer = parts_in_place(mode.number, key, message, first, second, &mut out);
+        assert_eq!(
+            (out, answer),
+            (output.clone(), runs),
+            "mode {}, {} bytes in parts of {first}, {second} and the rest",
+            mode.number,
+            message.len()
+        );
+    }
+}
+
+#[test]
+fn every_split_in_two() {
+    let message = Numbers(5).bytes(100);
+    for mode in MODES {
+        for n in 0..=100 {
+            assert_parts(mode, &message[..n], (0..=n).map(|first| (first, n - first)));
+        }
+    }
+}
+
+#[test]
+fn every_split_in_three() {
+    let message = Numbers(6).bytes(100);
+    for mode in [&MAC, &HASH] {
+        for n in 0..=100 {
+            let parts =
+                (0..=n).flat_map(|first| (0..=n - first).map(move |second| (first, second)));
+            assert_parts(mode, &message[..n], parts);
+        }
+    }
+}
+
+#[test]
+fn parts_past_the_end_are_cut_at_the_end() {
+    let message = Numbers(7).bytes(40);
+    for mode in MODES {
+        for past in [41, 1 << 32, usize::MAX] {
+            assert_parts(mode, &message, [(past, past), (13, past), (past, 13)]);
+        }
+    }
+}
+
+/// The middle part alone would pass the limit: it is left out, and the first and the last are fed. Nothing else shows where a message was cut.
+#[test]
+fn a_part_past_the_limit_is_left_out() {
+    let message = Numbers(9).bytes(16_777_220);
+    for mode in MODES {
+        let drawn = mode.most_drawn.min(40);
+        for first in [0, 1, 7, 8, 9, 31, 33] {
+            let second = 16_777_217 - first;
+            let fed = [&message[..first], &message[16_777_217..]].concat();
+            let expected = sponge(permute, mode, &KEY, &fed, drawn);
+            let mut out = vec![0xa5; drawn];
+            let key = mode.given(&KEY);
+            let runs = parts_in_place(mode.number, key, &message, first, second, &mut out);
+            assert_eq!((out, runs), expected, "mode {}, first {first}", mode.number);
+        }
+    }
+}
+
+/// A message is refused: the answer is 0, and every byte of what was lent is kept.
+fn assert_refused(mode: u32, key: &[u8], lent: usize) {
+    let mut out = vec![0xa5; lent];
+    let answer = parts_in_place(mode, key, b"the ramp is clear", 3, 4, &mut out);
+    let kept = out.iter().all(|&byte| byte == 0xa5);
+    assert_eq!(
+        (answer, kept),
+        (0, true),
+        "mode {mode}, a key of {} bytes, {lent} bytes lent",
+        key.len()
+    );
+}
+
+#[test]
+fn numbers_that_are_no_mode_are_refused() {
+    for number in [0, 5, 255, 257, 258, 259, 260, u32::MAX] {
+        assert_refused(number, &KEY, 16);
+        assert_refused(number, &[], 16);
+    }
+}
+
+#[test]
+fn keys_of_other_lengths_are_refused() {
+    let key = Numbers(8).bytes(33);
+    for mode in MODES {
+        let right = mode.given(&KEY).len();
+        for length in (0..=33).filter(|&length| length != right) {
+            assert_refused(mode.number, &key[..length], 16);
+        }
+    }
+}
+
+#[test]
+fn outputs_past_the_limit_are_refused() {
+    for mode in MODES {
+        let key = mode.given(&KEY);
+        let mut most = vec![0xa5; mode.most_drawn];
+        let answer = parts_in_place(mode.number, key, &[7; 17], 3, 4, &mut most);
+        let expected = sponge(permute, mode, &KEY, &[7; 17], mode.most_drawn);
+        assert!((most, answer) == expected, "mode {}", mode.number);
+        for past in [1, 2, 100] {
+            assert_refused(mode.number, key, mode.most_drawn + past);
         }
     }
 }

@@ -24,7 +24,7 @@ fn both_lists_are_the_same() {
 #[test]
 fn every_answer_and_every_byte_is_the_plain_machines() {
     let (_, in_place) = printed();
-    assert_eq!(in_place.lines().count(), 353);
+    assert_eq!(in_place.lines().count(), 654);
     assert_eq!(wrong(&in_place), []);
 }
 

@@ -32,29 +32,14 @@ open-eight-requires-2 c κs = search needs
 draw-requires : tie.Need-draw-requires
 draw-requires c κs = search needs
 
-slice-aggregate-write-all-2 : tie.Need-slice-aggregate-write-all-2
-slice-aggregate-write-all-2 c = search needs
-
-write-all-requires-2 : tie.Need-write-all-requires-2
-write-all-requires-2 c κs = search needs
-
-print-bytes-requires : tie.Need-print-bytes-requires
-print-bytes-requires c κs = search needs
-
-slice-aggregate-write-all-3 : tie.Need-slice-aggregate-write-all-3
-slice-aggregate-write-all-3 c = search needs
-
-write-all-requires-3 : tie.Need-write-all-requires-3
-write-all-requires-3 c κs = search needs
-
 returns : tie.Need-returns
 unfolding sixteen
 returns c =
-    let key = c .before .before .before .before .before .before .before .before .before .before .before .before .before .before .args .key .now in
-    let prf = c .before .before .before .before .before .before .before .before .open-eight .ensures
-    ∙ ap (λ (h : Hub). final onHub h (replicate 8 (Open 1 key))) (c .before .before .before .before .before .before .before .before .before .empty .ensures) in
-    let all = c .before .before .before .before .before .before .open-eight2 .ensures ∙ ap (λ (h : Hub). final onHub h (replicate 8 (Open 3 []))) prf in
-    c .before .before .before .before .before .draw .ensures ∙ ap (λ (h : Hub). drawHub 14 lentOut 0 3 h .after) all
+    let key = c .before .before .before .before .before .before .before .before .args .key .now in
+    let prf = c .before .before .before .open-eight .ensures
+    ∙ ap (λ (h : Hub). final onHub h (replicate 8 (Open 1 key))) (c .before .before .before .before .empty .ensures) in
+    let all = c .before .open-eight2 .ensures ∙ ap (λ (h : Hub). final onHub h (replicate 8 (Open 3 []))) prf in
+    c .draw .ensures ∙ ap (λ (h : Hub). drawHub 14 lentOut 0 3 h .after) all
 
 pub begin-spec : {M : Type 1} → statement M
 begin-spec =
@@ -67,9 +52,4 @@ begin-spec =
     slice-aggregate-open-eight
     open-eight-requires-2
     draw-requires
-    slice-aggregate-write-all-2
-    write-all-requires-2
-    print-bytes-requires
-    slice-aggregate-write-all-3
-    write-all-requires-3
     returns)

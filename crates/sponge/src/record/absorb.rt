@@ -8,7 +8,7 @@ ghost use Rattle.word.specs.Bytes.{xorFrom};
 ghost use Rattle.mode.specs.Mode.{row};
 ghost use Rattle.sponge.specs.Sponge.{flipIf};
 ghost use Rattle.sponge.specs.Record as spec;
-ghost use Rattle.sponge.specs.Parts.{filled};
+ghost use Rattle.sponge.specs.Parts.{filled, afterFeed};
 
 // The place in its block of the byte that n others came before.
 fn feed_place(mode: Mode, n: u64) -> usize
@@ -40,6 +40,18 @@ fn xor_part(words: [u64; 5], place: usize, bytes: &[u8]) -> [u64; 5]
     state::xor_bytes(words, place as u32, bytes)
 }
 
+// At most eight bytes xored into the block from a place on, as one word.
+fn xor_few(words: [u64; 5], place: usize, bytes: &[u8]) -> [u64; 5]
+    requires { ⌜ (place < 2 ^ 32) × (length (now bytes) ≤ 8) ⌝ }
+    ensures { λ r. ⌜ r ≡ xorFrom place (now (bytes .entry)) words ⌝ }
+{
+    // Only for time: no bytes make the word 0, which changes nothing.
+    if bytes.len() == 0 {
+        return words;
+    }
+    state::xor_word_at(words, place as u32, state::word_of_bytes(bytes, 0))
+}
+
 impl Record {
     // Bytes are fed. That feeding lasts is the caller's to test.
     pub fn absorb(self, bytes: &[u8]) -> Record
@@ -57,8 +69,51 @@ impl Record {
             place = 0;
             done = end;
         }
-        current.fed = std::num::wrapping_add_u64(self.fed, bytes.len() as u64);
-        current
+        let words = current.words;
+        self.after_feed(words, current.runs, bytes.len())
+    }
+
+    // The same, and fast for a few bytes, for a hub that stays in its memory. It has to have one caller in a program: docs/ARCHITECTURE.md, "What keeps records in
+    // registers".
+    pub fn absorb_small(self, bytes: &[u8]) -> Record
+        ensures { λ r. ⌜ r ≡ spec.absorbed (now (bytes .entry)) self ⌝ }
+    {
+        let mode = self.mode;
+        let before = self.words;
+        let place = feed_place(mode, self.fed);
+        if bytes.len() < mode.feed_rate() - place && bytes.len() <= 8 {
+            return self.after_feed(xor_few(before, place, bytes), self.runs, bytes.len());
+        }
+        // A second record goes to `absorb` and back through memory, so that this one stays in registers.
+        let second = Record {
+            words: before,
+            runs: self.runs,
+            fed: self.fed,
+            drawn: 0,
+            ticket: 0,
+            mode: mode,
+            feeding: true,
+        };
+        let absorbed = second.absorb(bytes);
+        let after = absorbed.words;
+        self.after_feed(after, absorbed.runs, bytes.len())
+    }
+
+    // The record with these words and runs, and so many more bytes fed. With all its fields named it is not copied whole, by loads of sixteen bytes, which would have
+    // to wait for stores of eight before them.
+    fn after_feed(self, words: [u64; 5], runs: u64, count: usize) -> Record
+        ensures { λ r. ⌜ r ≡ afterFeed words runs count self ⌝ }
+    {
+        let mode = self.mode;
+        Record {
+            words: words,
+            runs: runs,
+            fed: std::num::wrapping_add_u64(self.fed, count as u64),
+            drawn: self.drawn,
+            ticket: self.ticket,
+            mode: mode,
+            feeding: self.feeding,
+        }
     }
 
     // Bytes go to the block from a place on, and a run follows where they fill it.

@@ -1,5 +1,5 @@
 -- `hub::in_place::feed` meets its contract: a walk of its MIR, by hand. The borrow is opened, the hub is copied out as `locate`'s argument, the ticket's record
--- is read, `feed_record` is called, where it accepts its record is stored where the first one lay, and the borrow is closed.
+-- is read, `feed_small` is called, where it accepts its record is stored where the first one lay, and the borrow is closed.
 -- All that the proof knows of the callees is that they meet their contracts. Assumes nothing.
 use mathlib.Core.Path.{_≡_, refl, sym, _∙_, ap, subst}
 use mathlib.Core.Bool.{not}
@@ -68,10 +68,10 @@ use Rattle.hub.proofs.InPlace.{recordVal, ansVal, IsRecord, IsAns, is-r
 use Rattle.hub.proofs.places.locate.Symbol as locate-def
 use Rattle.hub.proofs.places.locate.Symbol.{name as #locate}
 use Rattle.hub.proofs.places.locate.Met as locate-thm
-use Rattle.hub.proofs.records.feed_record as callee
-use Rattle.hub.proofs.records.feed_record.Symbol as callee-def
-use Rattle.hub.proofs.records.feed_record.Symbol.{name as #callee}
-use Rattle.hub.proofs.records.feed_record.Met as callee-thm
+use Rattle.hub.proofs.records.feed_small as callee
+use Rattle.hub.proofs.records.feed_small.Symbol as callee-def
+use Rattle.hub.proofs.records.feed_small.Symbol.{name as #callee}
+use Rattle.hub.proofs.records.feed_small.Met as callee-thm
 use Rattle.hub.proofs.in_place.feed.Key.{name as #own}
 use Rattle.hub.proofs.in_place.feed as own
 use Rattle.hub.proofs.in_place.feed.Statement as stated
@@ -181,7 +181,7 @@ module _ {M : Type 1} (𝓤 : URA M) (H : Heap 𝓤) (A : Atoms 𝓤) (W : Given
         (from ! (hop ! (look ! 32 refl) (fld ! refl (stop !)))) (init ! 18 refl (tt, tt)) (look ! 18 refl) (look ! 20 refl) (init ! 16 refl (tt, tt)) $
         assigns ! (of-opd ! (load ! (from ! (hop ! (look ! 16 refl) (stop !))) (look-in ! 0 (slot ! E.the-type E′.the-laws (h .records) k noRecord (is-records h g) lt (sub ! 0 refl (whole !))))))
         (from ! (stop !)) (init ! 14 refl (typed W E.the-type E′.the-laws e (is-record n h g lt))) $
-        -- `feed_record`, whose result lands in _5
+        -- `feed_small`, whose result lands in _5
         move ! (5 ∷ []) $ fsplit ! $ drop ! $ fsplit ! $ move ! (0 ∷ 6 ∷ []) $ use2 W (raw (Callee 𝓤 H A at-mem run .pre to) ⊛ ‵ Own) (asked (is-refusal (located n h) ls) (is-record n h g lt)) $ split ! $
         calls-at ! fm (Callee 𝓤 H A at-mem run) known to (and-then ! (load ! (from ! (fld ! refl (stop !))) (look-in ! 27 (sub ! 0 refl (whole !)))) (and-then ! (load ! (from ! (stop !)) (look ! 15 refl)) (and-then ! (load ! (from ! (stop !)) (look ! 29 refl)) (no-more !)))) (λ v.
         told ! tt P.the-row r v (‵ (flft κ′ q′) ⊛ ‵ ftrue) (λ ws. ‵ (lasts callee.ended (κ′, tt) (f, (e, (s, tt))) ws)) (id⊢ 𝓤 _) (λ is. move ! (3 ∷ 4 ∷ 5 ∷ 6 ∷ []) $
@@ -225,4 +225,4 @@ feed-spec 𝓤 H 𝓜 𝓖 𝓡 =
     (tables 𝓤 H 𝓜 𝓡 code.env .C) (tables 𝓤 H 𝓜 𝓡 code.env .Λ) #own code.function (code.unfolded 𝓤 H 𝓜 𝓡)
     (own-meets 𝓤 H (𝓖 .A) (givenOf 𝓤 H 𝓜 𝓖) (𝓜 .mem) (𝓡 .run) (tablesOf 𝓤 H 𝓜 (tables 𝓤 H 𝓜 𝓡 code.env))
     (cited 𝓤 H (Locate 𝓤 H (𝓖 .A) (𝓜 .mem) (𝓡 .run)) 𝓜 𝓡 code.env #locate locate-def.routine code.calls-hub·places·locate (locate-thm.met 𝓤 H 𝓜 𝓖 𝓡))
-    (cited 𝓤 H (Callee 𝓤 H (𝓖 .A) (𝓜 .mem) (𝓡 .run)) 𝓜 𝓡 code.env #callee callee-def.routine code.calls-hub·records·feed-record (callee-thm.met 𝓤 H 𝓜 𝓖 𝓡)))
+    (cited 𝓤 H (Callee 𝓤 H (𝓖 .A) (𝓜 .mem) (𝓡 .run)) 𝓜 𝓡 code.env #callee callee-def.routine code.calls-hub·records·feed-small (callee-thm.met 𝓤 H 𝓜 𝓖 𝓡)))

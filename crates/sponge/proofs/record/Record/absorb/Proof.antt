@@ -2,7 +2,7 @@
 -- first record; and as long as some are left, the place is that of the next.
 -- Assumes nothing.
 use mathlib.Core.Path.{_≡_, refl, sym, ap, ap₂, _∙_}
-use Prim.Native.Nat.{ℕ, _+_, _-_, _%_, _^_, _≤_, _<_}
+use Prim.Native.Nat.{ℕ, _+_, _-_, _%_, _≤_, _<_}
 use native.Mathlib.Nat.{add-zero, mod-lt}
 use native.Mathlib.Omega.{arith}
 use borrow.Author.Needs.{needs}
@@ -10,11 +10,11 @@ use lib.ListN.{length, take, drop, drop-of-length-le, length-take, length-drop}
 use Rattle.mode.specs.declared.Mode.{Mode}
 use Rattle.sponge.specs.declared.record.Record.{Record}
 use Rattle.mode.specs.Mode.{row}
-use Rattle.sponge.specs.Record.{sum64, withFed, feedBytes, absorbed}
-use Rattle.sponge.specs.Parts.{filled}
+use Rattle.sponge.specs.Record.{feedBytes}
+use Rattle.sponge.specs.Parts.{filled, afterFeed}
 use Rattle.mode.proofs.Modes.{rates}
 use Rattle.sponge.proofs.Places.{block-end}
-use Rattle.sponge.proofs.Parts.{filled-mode, feed-next}
+use Rattle.sponge.proofs.Parts.{filled-mode, feed-next, absorbed-fed}
 use Rattle.sponge.proofs.record.Record.absorb.Statement.{statement}
 use Rattle.sponge.proofs.record.Record.absorb.Tie as tie
 
@@ -107,16 +107,17 @@ loop-again c =
       ap (λ (r : Record). r .mode) result ∙ filled-mode (row (a .self .mode)) (now .place) _ (now .current) ∙ now .inv .4,
     )
 
-wrapping-add-u64-requires : tie.Need-wrapping-add-u64-requires Inv-loop μ-loop
-wrapping-add-u64-requires c κs = search needs
+after-feed-requires : tie.Need-after-feed-requires Inv-loop μ-loop
+after-feed-requires c κs = search needs
 
 returns : tie.Need-returns Inv-loop μ-loop
-unfolding absorbed feedBytes sum64
+unfolding feedBytes
 returns c =
-    let last = c .before .before .loop in
-    let fed : c .wrapping-add-u64 .result ≡ (c .before .before .before .before .before .before .args .self .fed
-    + length (c .before .before .before .before .before .before .args .bytes .now)) % 2 ^ 64 = c .wrapping-add-u64 .ensures in
-    ap₂ withFed fed (rw (drop-of-length-le _ (c .before .loop-test .left)) at (last .inv .3))
+    let a = c .before .before .before .before .before .before .before .args in
+    let all : c .before .before .before .loop .current ≡ feedBytes (row (a .self .mode)) (a .self .fed) (a .bytes .now) (a .self) =
+    rw (drop-of-length-le _ (c .before .before .loop-test .left)) at (c .before .before .before .loop .inv .3) in
+    c .after-feed .ensures ∙ ap (λ (r : Record). afterFeed (r .words) (r .runs) (length (a .bytes .now)) (a .self)) all
+    ∙ sym (absorbed-fed (a .bytes .now) (a .self))
 
 pub absorb-spec : {M : Type 1} → statement M
 absorb-spec =
@@ -137,5 +138,5 @@ absorb-spec =
     fill-requires
     loop-less
     loop-again
-    wrapping-add-u64-requires
+    after-feed-requires
     returns)

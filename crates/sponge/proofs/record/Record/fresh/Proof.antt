@@ -1,17 +1,14 @@
 -- `sponge::Record::fresh` meets its contract.
 -- Assumes nothing.
-use mathlib.Core.Path.{_≡_, sym}
-use mathlib.Core.List.{[], _∷_}
+use mathlib.Core.Path.{sym}
 use native.Mathlib.Omega.{arith}
 use denote.Ref.{now}
-use lib.ListN.{take}
 use lib.Seq.{length-take-le}
-use Rattle.word.specs.Bytes.{xorFrom}
 use Rattle.word.proofs.Bytes.{Bytes}
 use Rattle.word.proofs.Lists.{take-min}
 use Rattle.mode.specs.Mode.{row}
 use Rattle.sponge.specs.Record.{fresh}
-use Rattle.sponge.proofs.Initial.{initial-xored}
+use Rattle.sponge.proofs.Initial.{initial-words}
 use borrow.Author.Needs.{needs}
 use Rattle.sponge.proofs.record.Record.fresh.Statement.{statement}
 use Rattle.sponge.proofs.record.Record.fresh.Tie as tie
@@ -22,16 +19,19 @@ key-length-requires c κs = search needs
 shorter-requires : tie.Need-shorter-requires
 shorter-requires c κs = search needs
 
+slice-aggregate-used : tie.Need-slice-aggregate-used
+slice-aggregate-used c =
+    let least = c .before .shorter in
+    sym (length-take-le (least .result) (now (c .before .before .before .before .args .key)) (omega (arith, least .ensures)))
+
 start-word-requires : tie.Need-start-word-requires
 start-word-requires c κs = search needs
 
-slice-aggregate-xor-bytes : tie.Need-slice-aggregate-xor-bytes
-slice-aggregate-xor-bytes c =
-    let least = c .before .before .shorter in
-    sym (length-take-le (least .result) (now (c .before .before .before .before .before .args .key)) (omega (arith, least .ensures)))
+word-of-bytes-requires : tie.Need-word-of-bytes-requires
+word-of-bytes-requires c κs = search needs
 
-xor-bytes-requires : tie.Need-xor-bytes-requires
-xor-bytes-requires c κs = search needs
+word-of-bytes-requires-2 : tie.Need-word-of-bytes-requires-2
+word-of-bytes-requires-2 c κs = search needs
 
 run-requires : tie.Need-run-requires
 run-requires c κs = search needs
@@ -39,12 +39,9 @@ run-requires c κs = search needs
 returns : tie.Need-returns
 unfolding fresh
 returns c =
-    let a = c .before .before .before .before .before .before .before .args in
-    let bytes : Bytes (now (a .key)) = λ i. omega (arith, c .before .before .before .before .before .before .shared-slice-known .given i) in
-    let keyed : c .before .xor-bytes .result
-    ≡ xorFrom 8 (take (c .before .before .before .before .shorter .result) (now (a .key))) (c .before .before .before .start-word .result ∷ 0 ∷ 0 ∷ 0 ∷ 0 ∷ []) =
-    c .before .xor-bytes .ensures in
-    rw (c .run .ensures, keyed, c .before .before .before .start-word .ensures, c .before .before .before .before .shorter .ensures, c .before .before .before .before .before .key-length .ensures, take-min (row (a .mode) .keyLength) (now (a .key)), initial-xored (a .mode) (now (a .key)) bytes)
+    let a = c .before .before .before .before .before .before .before .before .args in
+    let bytes : Bytes (now (a .key)) = λ i. omega (arith, c .before .before .before .before .before .before .before .shared-slice-known .given i) in
+    rw (c .run .ensures, c .before .word-of-bytes2 .ensures, c .before .before .word-of-bytes .ensures, c .before .before .before .start-word .ensures, c .before .before .before .before .before .shorter .ensures, c .before .before .before .before .before .before .key-length .ensures, take-min (row (a .mode) .keyLength) (now (a .key)), initial-words (a .mode) (now (a .key)) bytes)
 
 pub fresh-spec : {M : Type 1} → statement M
 fresh-spec =
@@ -52,8 +49,9 @@ fresh-spec =
     (tie.spec
     key-length-requires
     shorter-requires
+    slice-aggregate-used
     start-word-requires
-    slice-aggregate-xor-bytes
-    xor-bytes-requires
+    word-of-bytes-requires
+    word-of-bytes-requires-2
     run-requires
     returns)
