@@ -16,13 +16,11 @@ sixteen = final onHub emptyHub (replicate mostOpen (Open 2 (replicate 16 0)))
 unfoldable pub feedsRuns : ℕ → List ℕ → ℕ → ℕ
 feedsRuns ticket bytes times = feedHub ticket [] (final onHub sixteen (replicate times (Feed ticket bytes))) .response .answer .runs
 
--- ticket 1 is fed a message in two parts, the first of so many bytes, or of all
-abbrev pub feedInTwo : ℕ → List ℕ → List Call
-feedInTwo cut message = Feed 1 (take cut message) ∷ Feed 1 (drop cut message) ∷ []
-
--- and in three
+-- ticket 1 is fed a message in three parts, the first and the second of so many bytes, or of all that are left
 abbrev pub feedInThree : ℕ → ℕ → List ℕ → List Call
-feedInThree first second message = Feed 1 (take first message) ∷ feedInTwo second (drop first message)
+feedInThree first second message =
+    let rest : List ℕ = drop first message in
+    Feed 1 (take first message) ∷ Feed 1 (take second rest) ∷ Feed 1 (drop second rest) ∷ []
 
 -- what a draw of as many bytes as are lent gets from ticket 1, which was opened in an empty hub and fed a message in three parts
 unfoldable pub drawnOfParts : ℕ → List ℕ → List ℕ → List ℕ → ℕ → ℕ → Response

@@ -63,22 +63,15 @@ pub extern "C" fn bench_feeds_in_place(ticket: u32, bytes: &[u8], times: usize) 
     )
 }
 
-// Ticket 1 is fed a message in two parts, in place. A cut past its end is one at its end.
-fn feed_in_two(hub: Hub, message: &[u8], cut: usize) -> Hub
-    ensures { λ r. ⌜ r ≡ final onHub hub (spec.feedInTwo cut (now (message .entry))) ⌝ }
-{
-    let middle = state::shorter(cut, message.len());
-    let begun = controller::feed_often(hub, 1, &message[..middle], 1);
-    controller::feed_often(begun, 1, &message[middle..], 1)
-}
-
-// And in three.
+// Ticket 1 is fed a message in three parts, in place. A cut past the end is one at the end.
 fn feed_in_three(hub: Hub, message: &[u8], first: usize, second: usize) -> Hub
     ensures { λ r. ⌜ r ≡ final onHub hub (spec.feedInThree first second (now (message .entry))) ⌝ }
 {
-    let middle = state::shorter(first, message.len());
-    let begun = controller::feed_often(hub, 1, &message[..middle], 1);
-    feed_in_two(begun, &message[middle..], second)
+    let begin = state::shorter(first, message.len());
+    let end = begin + state::shorter(second, message.len() - begin);
+    let once = controller::feed_often(hub, 1, &message[..begin], 1);
+    let twice = controller::feed_often(once, 1, &message[begin..end], 1);
+    controller::feed_often(twice, 1, &message[end..], 1)
 }
 
 // A hub with one ticket, of that mode and under that key, or with none where that is refused.

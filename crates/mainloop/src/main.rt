@@ -140,7 +140,7 @@ const ROUNDS: usize = 150;
 
 const KEY: [u8; 16] = [0, 1, 2, 3, 4, 5, 6, 7, 8, 9, 10, 11, 12, 13, 14, 15];
 
-// Fewer bytes than a word has, which do not fill a block but with others: they begin at each of its places.
+// Fewer bytes than a word has. Fed again and again, they begin at each place of a block of the hash.
 const FEW: [u8; 3] = [129, 66, 36];
 
 const MESSAGE: [u8; 20] = [
