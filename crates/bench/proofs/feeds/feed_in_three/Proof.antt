@@ -1,14 +1,16 @@
 -- `bench::feeds::feed_in_three` meets its contract.
 -- Assumes nothing.
 use mathlib.Core.Path.{_≡_, sym, ap, _∙_}
-use mathlib.Core.List.{List}
+use mathlib.Core.List.{List, [], _∷_}
 use Prim.Native.Nat.{ℕ, _+_, _-_, min}
 use native.Mathlib.Omega.{arith}
-use lib.ListN.{length, take, drop, length-drop}
+use lib.ListN.{length, take, drop, replicate, length-drop}
 use lib.Seq.{drop-drop, length-take-le}
 use Rattle.word.proofs.Lists.{take-min, drop-min}
 use Rattle.checks.proofs.Buffers.{part-to-end}
-use Rattle.calls.specs.Call.{final}
+use Rattle.calls.specs.Call.{Feed, final}
+use Rattle.hub.specs.declared.Hub.{Hub}
+use Rattle.hub.specs.Hub.{onHub}
 use borrow.Author.Needs.{needs}
 use Rattle.bench.proofs.feeds.feed_in_three.Statement.{statement}
 use Rattle.bench.proofs.feeds.feed_in_three.Tie as tie
@@ -76,21 +78,23 @@ part-feed-often-end-2 c = search needs
 feed-often-requires-3 : tie.Need-feed-often-requires-3
 feed-often-requires-3 c κs = search needs
 
-returns : tie.Need-returns
+-- the hub after three feeds, each made once, of the parts p, q and s
+fed : (hub once twice r : Hub) (p q s p′ q′ s′ : List ℕ) → once ≡ final onHub hub (replicate 1 (Feed 1 p))
+    → twice ≡ final onHub once (replicate 1 (Feed 1 q)) → r ≡ final onHub twice (replicate 1 (Feed 1 s)) → p ≡ p′ → q ≡ q′ → s ≡ s′
+    → r ≡ final onHub hub (Feed 1 p′ ∷ Feed 1 q′ ∷ Feed 1 s′ ∷ [])
 unfolding final
+fed hub once twice r p q s p′ q′ s′ e₁ e₂ e₃ e e′ e″ = rw (e₃, e₂, e₁, e, e′, e″)
+
+returns : tie.Need-returns
 returns c =
     let a = c .before .before .before .before .before .before .before .before .before .args in
     let begin = c .before .before .before .before .before .before .before .shorter in
     let more = c .before .before .before .before .before .before .shorter2 in
-    rw (
-      c .feed-often3 .ensures,
-      c .before .before .feed-often2 .ensures,
-      c .before .before .before .before .feed-often .ensures,
-      part-to-end,
-      first-part (a .message .now) (a .first) (a .second) (begin .result) (more .result) (begin .ensures) (more .ensures),
-      second-part (a .message .now) (a .first) (a .second) (begin .result) (more .result) (begin .ensures) (more .ensures),
-      third-part (a .message .now) (a .first) (a .second) (begin .result) (more .result) (begin .ensures) (more .ensures),
-    )
+    fed (a .hub) _ _ _ _ _ _ _ _ _ (c .before .before .before .before .feed-often .ensures) (c .before .before .feed-often2 .ensures) (c .feed-often3 .ensures)
+    (first-part (a .message .now) (a .first) (a .second) (begin .result) (more .result) (begin .ensures) (more .ensures))
+    (second-part (a .message .now) (a .first) (a .second) (begin .result) (more .result) (begin .ensures) (more .ensures))
+    (part-to-end (a .message .now) (begin .result + more .result)
+    ∙ third-part (a .message .now) (a .first) (a .second) (begin .result) (more .result) (begin .ensures) (more .ensures))
 
 pub feed-in-three-spec : {M : Type 1} → statement M
 feed-in-three-spec =
