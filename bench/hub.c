@@ -1,6 +1,6 @@
 /* Feeds through the hub, by value and in place, beside plain C that alters a hub where it lies. A call that is refused is timed too.
  * A batch begins with sixteen opens and ends with one feed more, on both sides; that is one or two microseconds. */
-#include "bench.h"
+#include "testbench.h"
 #include "measure.h"
 #include "parts.h"
 #include "plain.h"
@@ -16,8 +16,8 @@ static uint64_t runs;
         runs = feeds(ticket, bytes, row->bytes, (size_t)row->calls);            \
     }
 
-BATCH(by_value, bench_feeds_by_value)
-BATCH(in_place, bench_feeds_in_place)
+BATCH(by_value, testbench_feeds_by_value)
+BATCH(in_place, testbench_feeds_in_place)
 BATCH(plain, plain_feeds)
 
 static const struct peers copied = {{by_value, plain}, &runs, sizeof runs}, lent = {{in_place, plain}, &runs, sizeof runs};

@@ -29,7 +29,7 @@ int main(int count, char **arguments) {
     print_heading();
     permutation_rows(pairs);
     sponge_rows(pairs);
-    sign_rows(pairs);
+    firmware_rows(pairs);
     hub_rows(pairs);
     script_rows(script_pairs, arguments[1], arguments[2], arguments[3]);
     print_columns(pairs, script_pairs);

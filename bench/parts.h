@@ -4,7 +4,7 @@
 
 void permutation_rows(int pairs);
 void sponge_rows(int pairs);
-void sign_rows(int pairs);
+void firmware_rows(int pairs);
 void hub_rows(int pairs);
 
 /* Runs the two programs; the folder is for scripts, and for what is printed for them. */

@@ -1,5 +1,5 @@
 /* The proved permutation beside the same in plain C: as a chain of values, and as a call on a lent row. */
-#include "bench.h"
+#include "testbench.h"
 #include "measure.h"
 #include "parts.h"
 #include "plain.h"
@@ -10,11 +10,11 @@ static struct {
     uint64_t state[5], answer;
 } given = {{0x00400c0000000100u}, 0};
 
-static void proved_chain(const struct row *row) { given.answer = bench_permute_chain(1, (uint64_t)row->calls); }
+static void proved_chain(const struct row *row) { given.answer = testbench_permute_chain(1, (uint64_t)row->calls); }
 static void plain_chain(const struct row *row) { given.answer = plain_permute_chain(1, (uint64_t)row->calls); }
 
 static void proved_row(const struct row *row) {
-    for (int i = 0; i < row->calls; i++) given.answer = bench_permute_row(given.state, 5);
+    for (int i = 0; i < row->calls; i++) given.answer = testbench_permute_row(given.state, 5);
 }
 
 static void plain_row(const struct row *row) {

@@ -13,13 +13,13 @@ uint64_t plain_permute_chain(uint64_t x0, uint64_t times);
 uint64_t plain_hash(const uint8_t *message, size_t length, uint8_t out[32]);
 uint64_t plain_mac(const uint8_t key[16], const uint8_t *message, size_t length, uint8_t out[16]);
 
-/* The functions of include/sign.h. */
+/* The functions of include/firmware.h. */
 uint32_t plain_prf_short(const uint8_t *key, size_t key_length, const uint8_t *message, size_t message_length, uint8_t *out, size_t out_length,
                          size_t length);
 uint32_t plain_seal_frame(const uint8_t *key, size_t key_length, uint8_t *frame, size_t frame_length, size_t body);
 uint32_t plain_verify_frame(const uint8_t *key, size_t key_length, const uint8_t *frame, size_t frame_length, size_t body);
 
-/* Feeds to a ticket of a hub that is altered where it lies; include/bench.h has the proved two. */
+/* Feeds to a ticket of a hub that is altered where it lies; include/testbench.h has the proved two. */
 uint64_t plain_feeds(uint32_t ticket, const uint8_t *bytes, size_t length, size_t times);
 
 #endif

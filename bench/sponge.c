@@ -1,6 +1,6 @@
-/* The proved sponge beside the same in plain C: the hash and the MAC of a long message. sign.c has the MAC of short ones: bench_sponge takes any mode, and cuts message and
+/* The proved sponge beside the same in plain C: the hash and the MAC of a long message. firmware.c has the MAC of short ones: testbench_sponge takes any mode, and cuts message and
  * output in two for the tests, and so does more than its peer, which a short message would show. */
-#include "bench.h"
+#include "testbench.h"
 #include "measure.h"
 #include "parts.h"
 #include "plain.h"
@@ -15,9 +15,9 @@ static struct {
 } given;
 
 /* The first part is all of the message, and all of the output. */
-static void proved_hash(const struct row *row) { given.runs = bench_sponge(key, 0, message, row->bytes, given.out, 32, HASH, row->bytes, 32); }
+static void proved_hash(const struct row *row) { given.runs = testbench_sponge(key, 0, message, row->bytes, given.out, 32, HASH, row->bytes, 32); }
 static void plain_hash_of(const struct row *row) { given.runs = plain_hash(message, row->bytes, given.out); }
-static void proved_mac(const struct row *row) { given.runs = bench_sponge(key, 16, message, row->bytes, given.out, 16, MAC, row->bytes, 16); }
+static void proved_mac(const struct row *row) { given.runs = testbench_sponge(key, 16, message, row->bytes, given.out, 16, MAC, row->bytes, 16); }
 static void plain_mac_of(const struct row *row) { given.runs = plain_mac(key, message, row->bytes, given.out); }
 
 void sponge_rows(int pairs) {

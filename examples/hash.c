@@ -1,5 +1,5 @@
 /* Hashes a message, and judges a tag. */
-#include "bench.h"
+#include "testbench.h"
 
 #include <stdio.h>
 
@@ -17,17 +17,17 @@ int main(void) {
     uint64_t runs;
 
     /* The hash of one zero byte: first its 32 bytes, then how many times the state was permuted. It takes no key, so none of its bytes are lent. */
-    runs = bench_sponge(key, 0, message, sizeof message, hash, sizeof hash, HASH, sizeof message, sizeof hash);
+    runs = testbench_sponge(key, 0, message, sizeof message, hash, sizeof hash, HASH, sizeof message, sizeof hash);
     print_hex(hash, sizeof hash);
     printf("%llu\n", (unsigned long long)runs);
 
     /* The tag of no bytes at all, and the verdict on it: 1, it passes. */
-    bench_sponge(key, sizeof key, message, 0, tag, sizeof tag, MAC, 0, sizeof tag);
+    testbench_sponge(key, sizeof key, message, 0, tag, sizeof tag, MAC, 0, sizeof tag);
     print_hex(tag, sizeof tag);
-    printf("%u\n", (unsigned)bench_tag(key, sizeof key, message, 0, tag, sizeof tag));
+    printf("%u\n", (unsigned)testbench_tag(key, sizeof key, message, 0, tag, sizeof tag));
 
     /* One bit of it damaged: 0, it fails. */
     tag[15] ^= 1;
-    printf("%u\n", (unsigned)bench_tag(key, sizeof key, message, 0, tag, sizeof tag));
+    printf("%u\n", (unsigned)testbench_tag(key, sizeof key, message, 0, tag, sizeof tag));
     return 0;
 }

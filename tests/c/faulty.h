@@ -1,4 +1,4 @@
-/* Functions of include/sign.h and include/bench.h that answer and write what they should, and have a fault that tests/c/secrets.c must find: otherwise it could find none. */
+/* Functions of include/firmware.h and include/testbench.h that answer and write what they should, and have a fault that tests/c/secrets.c must find: otherwise it could find none. */
 #ifndef FAULTY_H
 #define FAULTY_H
 

@@ -5,15 +5,15 @@
  *
  * Each buffer is a block of the heap of exactly its length, so that a byte read or written outside of it is reported as well. Results are compared with plain C.
  *
- *     valgrind secrets        the functions of include/sign.h and include/bench.h: passes where nothing is reported
+ *     valgrind secrets        the functions of include/firmware.h and include/testbench.h: passes where nothing is reported
  *     valgrind secrets FAULT  the same with a function of faulty.h in place of a proved one: passes where that is reported
  *
  * It prints a line for each test, and ends with 'N passed, M failed'. */
-#include "bench.h"
+#include "testbench.h"
 #include "expect.h"
 #include "faulty.h"
 #include "plain.h"
-#include "sign.h"
+#include "firmware.h"
 
 #include <stdio.h>
 #include <stdlib.h>
@@ -38,7 +38,7 @@ struct functions {
 };
 
 /* Those that are tested. */
-static struct functions tested = {ascon_prf_short, ascon_seal_frame, ascon_verify_frame, bench_parts_in_place};
+static struct functions tested = {ascon_prf_short, ascon_seal_frame, ascon_verify_frame, testbench_parts_in_place};
 
 static const size_t bodies[] = {0, 1, 7, 8, 15, 16, 31, 32, 33, 63, 64, 65, 100, 1000};
 enum { BODIES = sizeof bodies / sizeof *bodies };
@@ -73,7 +73,7 @@ static int marked(const void *bytes, size_t length, uint8_t mark) {
     return 1;
 }
 
-/* ---- the functions of include/sign.h */
+/* ---- the functions of include/firmware.h */
 
 static void short_calls(void) {
     uint8_t expected[16];
@@ -190,7 +190,7 @@ static void refused_frames(void) {
     }
 }
 
-/* ---- the functions of include/bench.h */
+/* ---- the functions of include/testbench.h */
 
 /* One word of the state is secret, or all are. */
 static void permuted_states(void) {
@@ -199,7 +199,7 @@ static void permuted_states(void) {
         uint64_t *row = block(message, 40);
         if (word < 5) VALGRIND_MAKE_MEM_UNDEFINED(row + word, 8);
         else VALGRIND_MAKE_MEM_UNDEFINED(row, 40);
-        uint32_t answer = bench_permute_row(row, 5);
+        uint32_t answer = testbench_permute_row(row, 5);
         expect(marked(&answer, sizeof answer, PUBLIC), "the permutation's answer depends on a secret", word, 0);
         expect(marked(row, 40, SECRET), "a state that does not depend on the secrets", word, 0);
         reveal(row, 40);
@@ -228,7 +228,7 @@ static void sponges(void) {
         for (uint32_t mode = 2; mode <= 3; mode++) {
             size_t n = bodies[i], t = mode == 2 ? 16 : 32;
             uint8_t *k = secret(key, 16), *in = secret(message, n), *out = block(message, t);
-            uint64_t runs = bench_sponge(k, 16, in, n, out, t, mode, n / 3, t / 3);
+            uint64_t runs = testbench_sponge(k, 16, in, n, out, t, mode, n / 3, t / 3);
             expect_output(mode, n, n / 3, out, runs);
             free(k);
             free(in);
@@ -239,7 +239,7 @@ static void sponges(void) {
 
 static void fed_often(size_t n) {
     uint8_t *in = secret(message, n);
-    uint64_t by_value = bench_feeds_by_value(5, in, n, 3), in_place = bench_feeds_in_place(5, in, n, 3);
+    uint64_t by_value = testbench_feeds_by_value(5, in, n, 3), in_place = testbench_feeds_in_place(5, in, n, 3);
     expect(marked(&by_value, sizeof by_value, PUBLIC) && marked(&in_place, sizeof in_place, PUBLIC), "a run count depends on a secret", n, 0);
     expect(by_value == plain_feeds(5, message, n, 3) && in_place == by_value, "feeds", n, 0);
     free(in);
@@ -298,12 +298,12 @@ static const struct {
     struct functions functions;
     void (*run)(void);
 } faults[] = {
-    {"lookup_by_key", {lookup_by_key, ascon_seal_frame, ascon_verify_frame, bench_parts_in_place}, short_calls},
-    {"branch_on_message", {branch_on_message, ascon_seal_frame, ascon_verify_frame, bench_parts_in_place}, short_calls},
-    {"branch_on_state", {ascon_prf_short, branch_on_state, ascon_verify_frame, bench_parts_in_place}, sealed_frames},
-    {"write_outside", {ascon_prf_short, write_outside, ascon_verify_frame, bench_parts_in_place}, sealed_frames},
-    {"early_exit", {ascon_prf_short, ascon_seal_frame, early_exit, bench_parts_in_place}, judged_frames},
-    {"read_outside", {ascon_prf_short, ascon_seal_frame, read_outside, bench_parts_in_place}, judged_frames},
+    {"lookup_by_key", {lookup_by_key, ascon_seal_frame, ascon_verify_frame, testbench_parts_in_place}, short_calls},
+    {"branch_on_message", {branch_on_message, ascon_seal_frame, ascon_verify_frame, testbench_parts_in_place}, short_calls},
+    {"branch_on_state", {ascon_prf_short, branch_on_state, ascon_verify_frame, testbench_parts_in_place}, sealed_frames},
+    {"write_outside", {ascon_prf_short, write_outside, ascon_verify_frame, testbench_parts_in_place}, sealed_frames},
+    {"early_exit", {ascon_prf_short, ascon_seal_frame, early_exit, testbench_parts_in_place}, judged_frames},
+    {"read_outside", {ascon_prf_short, ascon_seal_frame, read_outside, testbench_parts_in_place}, judged_frames},
     {"branch_on_part", {ascon_prf_short, ascon_seal_frame, ascon_verify_frame, branch_on_part}, parts_in_place},
 };
 

@@ -1,9 +1,9 @@
-//! Links the archives that `rt staticlib bench` and `rt staticlib sign` write.
+//! Links the archives that `rt staticlib testbench` and `rt staticlib firmware` write.
 use std::path::Path;
 
 fn main() {
     let folder = Path::new(env!("CARGO_MANIFEST_DIR")).join("../../target/staticlib");
-    for library in ["bench", "sign"] {
+    for library in ["testbench", "firmware"] {
         let archive = folder.join(format!("lib{library}.a"));
         assert!(
             archive.exists(),

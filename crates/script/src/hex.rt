@@ -91,7 +91,7 @@ pub fn put_hex(out: &mut [u8], at: usize, bytes: &[u8]) -> usize
 }
 
 // Bytes as a field: `-` for none.
-pub(crate) fn put_field(out: &mut [u8], at: usize, bytes: &[u8]) -> usize
+pub fn put_field(out: &mut [u8], at: usize, bytes: &[u8]) -> usize
     ensures { λ r. ⌜ Wrote (now (out .entry)) at (spec.bytesText (now (bytes .entry))) (now (out .exit)) r ⌝ }
 {
     if bytes.len() == 0 {

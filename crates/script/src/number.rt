@@ -49,7 +49,7 @@ pub(crate) fn number_of(s: &[u8]) -> Number
     Number::Value(value as u32)
 }
 
-pub(crate) fn put_decimal(out: &mut [u8], at: usize, n: u64) -> usize
+pub fn put_decimal(out: &mut [u8], at: usize, n: u64) -> usize
     ensures { λ r. ⌜ Wrote (now (out .entry)) at (spec.decimal n) (now (out .exit)) r ⌝ }
 {
     if n < 10 {

@@ -67,7 +67,7 @@ pub fn place_in(out: &[u8], at: usize) -> usize
     out.len()
 }
 
-pub(crate) fn put_byte(out: &mut [u8], at: usize, b: u8) -> usize
+pub fn put_byte(out: &mut [u8], at: usize, b: u8) -> usize
     ensures { λ r. ⌜ spec.Wrote (now (out .entry)) at (b ∷ []) (now (out .exit)) r ⌝ }
 {
     if at < out.len() {

@@ -1,17 +1,17 @@
 //! The proved functions that C can call, as safe functions of Rust.
 
-// A line each, as the headers have them: bench.h and sign.h in include/.
+// A line each, as the headers have them: testbench.h and firmware.h in include/.
 #[rustfmt::skip]
 extern "C" {
-    fn bench_permute_row(row: *mut u64, length: usize) -> u32;
-    fn bench_permute_chain(x0: u64, times: u64) -> u64;
-    fn bench_sponge(key: *const u8, key_length: usize, message: *const u8, message_length: usize, out: *mut u8, out_length: usize, mode: u32, cut: usize, first: usize) -> u64;
-    fn bench_tag(key: *const u8, key_length: usize, message: *const u8, message_length: usize, tag: *const u8, tag_length: usize) -> u32;
-    fn bench_seal_runs(key: *const u8, key_length: usize, frame: *mut u8, frame_length: usize, body: usize) -> u64;
-    fn bench_verify_runs(key: *const u8, key_length: usize, frame: *const u8, frame_length: usize, body: usize) -> u64;
-    fn bench_feeds_by_value(ticket: u32, bytes: *const u8, length: usize, times: usize) -> u64;
-    fn bench_feeds_in_place(ticket: u32, bytes: *const u8, length: usize, times: usize) -> u64;
-    fn bench_parts_in_place(key: *const u8, key_length: usize, message: *const u8, message_length: usize, out: *mut u8, out_length: usize, mode: u32, first: usize, second: usize) -> u64;
+    fn testbench_permute_row(row: *mut u64, length: usize) -> u32;
+    fn testbench_permute_chain(x0: u64, times: u64) -> u64;
+    fn testbench_sponge(key: *const u8, key_length: usize, message: *const u8, message_length: usize, out: *mut u8, out_length: usize, mode: u32, cut: usize, first: usize) -> u64;
+    fn testbench_tag(key: *const u8, key_length: usize, message: *const u8, message_length: usize, tag: *const u8, tag_length: usize) -> u32;
+    fn testbench_seal_runs(key: *const u8, key_length: usize, frame: *mut u8, frame_length: usize, body: usize) -> u64;
+    fn testbench_verify_runs(key: *const u8, key_length: usize, frame: *const u8, frame_length: usize, body: usize) -> u64;
+    fn testbench_feeds_by_value(ticket: u32, bytes: *const u8, length: usize, times: usize) -> u64;
+    fn testbench_feeds_in_place(ticket: u32, bytes: *const u8, length: usize, times: usize) -> u64;
+    fn testbench_parts_in_place(key: *const u8, key_length: usize, message: *const u8, message_length: usize, out: *mut u8, out_length: usize, mode: u32, first: usize, second: usize) -> u64;
     fn ascon_prf_short(key: *const u8, key_length: usize, message: *const u8, message_length: usize, out: *mut u8, out_length: usize, length: usize) -> u32;
     fn ascon_seal_frame(key: *const u8, key_length: usize, frame: *mut u8, frame_length: usize, body: usize) -> u32;
     fn ascon_verify_frame(key: *const u8, key_length: usize, frame: *const u8, frame_length: usize, body: usize) -> u32;
@@ -20,13 +20,13 @@ extern "C" {
 /// Permutes a row of five words and gives 0; gives the refusal for any other row.
 pub fn permute_row(row: &mut [u64]) -> u32 {
     // SAFETY: the pointer and the length are those of one slice, lent for the call alone.
-    unsafe { bench_permute_row(row.as_mut_ptr(), row.len()) }
+    unsafe { testbench_permute_row(row.as_mut_ptr(), row.len()) }
 }
 
 /// x0 after so many permutations of the state x0, 0, 0, 0, 0.
 pub fn permute_chain(x0: u64, times: u64) -> u64 {
     // SAFETY: it takes and gives numbers.
-    unsafe { bench_permute_chain(x0, times) }
+    unsafe { testbench_permute_chain(x0, times) }
 }
 
 /// The output of a mode for a message, as much as is lent, and the runs made: the message is fed in two parts, and the output drawn in two.
@@ -40,7 +40,7 @@ pub fn sponge(
 ) -> u64 {
     // SAFETY: each pointer and the length after it are those of one slice, lent for the call alone; out is lent to it alone.
     unsafe {
-        bench_sponge(
+        testbench_sponge(
             key.as_ptr(),
             key.len(),
             message.as_ptr(),
@@ -58,7 +58,7 @@ pub fn sponge(
 pub fn tag(key: &[u8], message: &[u8], tag: &[u8]) -> u32 {
     // SAFETY: each pointer and the length after it are those of one slice, lent for the call alone.
     unsafe {
-        bench_tag(
+        testbench_tag(
             key.as_ptr(),
             key.len(),
             message.as_ptr(),
@@ -72,13 +72,13 @@ pub fn tag(key: &[u8], message: &[u8], tag: &[u8]) -> u32 {
 /// A ticket's run count after so many feeds of the same bytes in a hub of sixteen MAC tickets, by value.
 pub fn feeds_by_value(ticket: u32, bytes: &[u8], times: usize) -> u64 {
     // SAFETY: the slice is valid for its length, and its pointer is not null.
-    unsafe { bench_feeds_by_value(ticket, bytes.as_ptr(), bytes.len(), times) }
+    unsafe { testbench_feeds_by_value(ticket, bytes.as_ptr(), bytes.len(), times) }
 }
 
 /// The same in place.
 pub fn feeds_in_place(ticket: u32, bytes: &[u8], times: usize) -> u64 {
     // SAFETY: the slice is valid for its length, and its pointer is not null.
-    unsafe { bench_feeds_in_place(ticket, bytes.as_ptr(), bytes.len(), times) }
+    unsafe { testbench_feeds_in_place(ticket, bytes.as_ptr(), bytes.len(), times) }
 }
 
 /// The output of a ticket of a mode for a message, as much as is lent, and the runs made: the message is fed in three parts, in place. 0 where it is refused.
@@ -92,7 +92,7 @@ pub fn parts_in_place(
 ) -> u64 {
     // SAFETY: each pointer and the length after it are those of one slice, lent for the call alone; out is lent to it alone.
     unsafe {
-        bench_parts_in_place(
+        testbench_parts_in_place(
             key.as_ptr(),
             key.len(),
             message.as_ptr(),
@@ -146,7 +146,7 @@ pub fn verify(key: &[u8], frame: &[u8], body: usize) -> u32 {
 pub fn seal_runs(key: &[u8], frame: &mut [u8], body: usize) -> u64 {
     // SAFETY: as above; the frame is lent to it alone.
     unsafe {
-        bench_seal_runs(
+        testbench_seal_runs(
             key.as_ptr(),
             key.len(),
             frame.as_mut_ptr(),
@@ -159,5 +159,5 @@ pub fn seal_runs(key: &[u8], frame: &mut [u8], body: usize) -> u64 {
 /// Judges a frame: the runs that are reported, 0 where it is refused.
 pub fn verify_runs(key: &[u8], frame: &[u8], body: usize) -> u64 {
     // SAFETY: as above.
-    unsafe { bench_verify_runs(key.as_ptr(), key.len(), frame.as_ptr(), frame.len(), body) }
+    unsafe { testbench_verify_runs(key.as_ptr(), key.len(), frame.as_ptr(), frame.len(), body) }
 }

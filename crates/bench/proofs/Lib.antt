@@ -1,3 +1,0 @@
--- Crate `bench`: its laws.
-pub mod Halves
-pub mod FeedCounts

@@ -1,4 +1,0 @@
--- Crate `bench`: its definitions.
-pub mod Chain
-pub mod Sponge
-pub mod Feeds

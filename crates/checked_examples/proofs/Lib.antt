@@ -1,0 +1,2 @@
+-- Crate `checked_examples`: its proof.
+pub mod Examples

@@ -1,0 +1,2 @@
+-- Crate `checked_examples`: its statement.
+pub mod Examples

@@ -1,2 +1,0 @@
--- Crate `examples`: its proof.
-pub mod Examples

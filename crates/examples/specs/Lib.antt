@@ -1,2 +1,0 @@
--- Crate `examples`: its statement.
-pub mod Examples

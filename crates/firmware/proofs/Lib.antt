@@ -1,0 +1,2 @@
+-- Crate `firmware`: its laws.
+pub mod Numbers

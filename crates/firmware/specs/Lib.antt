@@ -1,0 +1,2 @@
+-- Crate `firmware`: its definitions.
+pub mod Firmware

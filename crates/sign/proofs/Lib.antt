@@ -1,2 +1,0 @@
--- Crate `sign`: its laws.
-pub mod Numbers

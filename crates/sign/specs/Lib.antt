@@ -1,2 +1,0 @@
--- Crate `sign`: its definitions.
-pub mod Sign

@@ -1,0 +1,3 @@
+-- Crate `testbench`: its laws.
+pub mod Halves
+pub mod FeedCounts

@@ -1,0 +1,4 @@
+-- Crate `testbench`: its definitions.
+pub mod Chain
+pub mod Sponge
+pub mod Feeds
