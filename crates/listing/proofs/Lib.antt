@@ -1,0 +1,2 @@
+-- Crate `listing`: its laws.
+pub mod Lists

@@ -1,0 +1,2 @@
+-- Crate `listing`: its definitions.
+pub mod Listing
