@@ -1,2 +1,2 @@
 -- Crate `day`: its laws.
-pub mod CallList
+pub mod Plans

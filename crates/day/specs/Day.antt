@@ -1,24 +1,82 @@
--- The calls of the day that many lines make by turns.
+-- What a plan of steps prints: the lines of its calls.
 -- Assumes nothing.
+use mathlib.Core.Path.{_≡_}
 use mathlib.Core.Bool.{cond}
-use mathlib.Core.List.{List, [], _∷_}
-use Prim.Native.Nat.{ℕ, zero, suc, _+_, _*_, _/_, _%_}
+use mathlib.Core.List.{List, [], _∷_, _++_}
+use Prim.Native.Nat.{ℕ, zero, suc, _+_, _-_, _*_, _/_, _%_}
 use lib.Dec.{ltb}
 use lib.ListN.{take, drop, replicate}
-use Rattle.calls.specs.Call.{Call, Open, Feed, Draw, Close}
+use Rattle.calls.specs.Call.{Call, Open, Feed, Draw, Check, Close, Sum, events, final}
+use Rattle.hub.specs.declared.Hub.{Hub}
+use Rattle.hub.specs.Hub.{emptyHub, onHub}
+use Rattle.script.specs.Text.{text, newline, Wrote}
+use Rattle.listing.specs.declared.Listed.{Listed}
+use Rattle.listing.specs.Listing.{named, numberField, bytesField, lines}
+use Rattle.day.specs.declared.Planned.{Planned}
+use Rattle.day.specs.declared.Planned.the-variants as planned
+use Rattle.day.specs.declared.Step.{Step}
+use Rattle.day.specs.declared.Step.the-variants.{Begin, Make, Turns, FeedOften}
 
--- a line's key where its mode has one: 16 bytes from a place on
-abbrev pub keyAt : ℕ → List ℕ → List ℕ
-keyAt i bytes = cond (ltb (i % 4) 2) (take 16 (drop i bytes)) []
+-- so many bytes of the sample, from a place on
+abbrev pub cut : List ℕ → ℕ → ℕ → List ℕ
+cut sample start n = take n (drop start sample)
 
--- call number i: the lines open, feed, draw and close by turns
-unfoldable pub callAt : ℕ → List ℕ → Call
-callAt i bytes =
-    cond (ltb i 16) (Open (i % 4 + 1) (keyAt i bytes))
-    (cond (ltb i 96) (Feed (i % 16 + 1) (take (i * 5 % 37) (drop (i % 12) bytes)))
-    (cond (ltb i 192) (Draw (i % 16 + 1) (replicate 48 170) (i % 41) (i * 7 % 23)) (Close (i / 2 % 20))))
+-- a buffer as it is lent to draws, and bytes as they are fed often: all the same, and no more than there are
+abbrev pub lent : ℕ → List ℕ
+lent n = take n (replicate 48 170)
 
--- n calls from number i on
-unfoldable pub callsFrom : ℕ → ℕ → List ℕ → List Call
-callsFrom i zero bytes = []
-callsFrom i (suc n) bytes = callAt i bytes ∷ callsFrom (suc i) n bytes
+abbrev pub alike : ℕ → ℕ → List ℕ
+alike byte n = take n (replicate 4096 byte)
+
+-- the call that is planned
+unfoldable pub callOf : Planned → List ℕ → Call
+callOf (planned.Open mode start n) sample = Open mode (cut sample start n)
+callOf (planned.Feed ticket start n) sample = Feed ticket (cut sample start n)
+callOf (planned.Draw ticket n place count) sample = Draw ticket (lent n) place count
+callOf (planned.Check ticket start n) sample = Check ticket (cut sample start n)
+callOf (planned.Close ticket) sample = Close ticket
+callOf planned.Sum sample = Sum
+
+-- turn number i: sixteen lines open, feed, draw and close by turns. Modes 1 and 2 get a key
+unfoldable pub turnAt : ℕ → Planned
+turnAt i =
+    cond (ltb i 16) (planned.Open (i % 4 + 1) i (cond (ltb (i % 4) 2) 16 0))
+    (cond (ltb i 96) (planned.Feed (i % 16 + 1) (i % 12) (i % 37 * 5 % 37))
+    (cond (ltb i 192) (planned.Draw (i % 16 + 1) 48 (i % 41) (i % 23 * 7 % 23)) (planned.Close (i / 2 % 20))))
+
+-- the calls of n turns from number i on
+unfoldable pub turnsFrom : ℕ → ℕ → List ℕ → List Call
+turnsFrom i zero sample = []
+turnsFrom i (suc n) sample = callOf (turnAt i) sample ∷ turnsFrom (suc i) n sample
+
+-- the line of an empty hub
+abbrev pub beginText : List ℕ
+beginText = text "empty\n"
+
+-- the line of a feed that is made so many times and whose answers are not listed
+unfoldable pub oftenText : ℕ → List ℕ → ℕ → List ℕ
+oftenText ticket bytes times = named (text "often") ticket ++ bytesField bytes ++ numberField times ++ (newline ∷ [])
+
+-- the hub after a step
+unfoldable pub stepAfter : Step → List ℕ → Hub → Hub
+stepAfter Begin sample h = emptyHub
+stepAfter (Make p) sample h = final onHub h (callOf p sample ∷ [])
+stepAfter (Turns first end) sample h = final onHub h (turnsFrom first (end - first) sample)
+stepAfter (FeedOften ticket byte n times) sample h = final onHub h (replicate times (Feed ticket (alike byte n)))
+
+-- what is listed of it
+unfoldable pub stepText : Step → List ℕ → Hub → List ℕ
+stepText Begin sample h = beginText
+stepText (Make p) sample h = lines (events onHub h (callOf p sample ∷ []))
+stepText (Turns first end) sample h = lines (events onHub h (turnsFrom first (end - first) sample))
+stepText (FeedOften ticket byte n times) sample h = oftenText ticket (alike byte n) times
+
+-- `r` has the hub after a step and the place behind its text, as `Lists` has them after calls
+pub record Steps (step : Step) (sample : List ℕ) (before : Hub) (first : List ℕ) (at : ℕ) (last : List ℕ) (r : Listed) : Type 0 where
+  pub hub : r .hub ≡ stepAfter step sample before
+  pub text : Wrote first at (stepText step sample before) last (r .next)
+
+-- what a whole plan prints
+unfoldable pub planText : List Step → List ℕ → Hub → List ℕ
+planText [] sample h = []
+planText (s ∷ ss) sample h = stepText s sample h ++ planText ss sample (stepAfter s sample h)

@@ -56,8 +56,8 @@ unfoldable pub lines : List Event → List ℕ
 lines [] = []
 lines (e ∷ es) = line e ++ lines es
 
--- A list of calls was made on the hub `before`, and its text written into a lent buffer, which was `first`, from place `at` on: `r` has the hub after them and the place
--- after the text, and `last` is the buffer then. What does not fit is left out.
+-- The calls were made on the hub `before`, one after the other, and their lines put into a lent buffer, which was `first`, from place `at` on: `r` has the hub after
+-- them and the place behind the text, and `last` is the buffer then. What does not fit is left out.
 pub record Lists (calls : List Call) (before : Hub) (first : List ℕ) (at : ℕ) (last : List ℕ) (r : Listed) : Type 0 where
   pub hub : r .hub ≡ final onHub before calls
   pub text : Wrote first at (lines (events onHub before calls)) last (r .next)

@@ -20,7 +20,7 @@ pub struct Listed {
 
 // ---- a line: each function takes the place to write at, and answers the place after what it wrote
 
-fn put_number(text: &mut [u8], at: usize, n: u64) -> usize
+pub fn put_number(text: &mut [u8], at: usize, n: u64) -> usize
     ensures { λ r. ⌜ Wrote (now (text .entry)) at (spec.numberField n) (now (text .exit)) r ⌝ }
 {
     let after_space = put_byte(text, at, b' ');
@@ -70,7 +70,7 @@ fn put_response(text: &mut [u8], at: usize, answer: Answer, buffer: &[u8]) -> us
 }
 
 // The name of a call, its number and its bytes.
-fn put_call(text: &mut [u8], at: usize, name: &[u8], number: u32, bytes: &[u8]) -> usize
+pub fn put_call(text: &mut [u8], at: usize, name: &[u8], number: u32, bytes: &[u8]) -> usize
     ensures { λ r. ⌜ Wrote (now (text .entry)) at (spec.named (now (name .entry)) number ++ spec.bytesField (now (bytes .entry))) (now (text .exit)) r ⌝ }
 {
     let after_number = put_named(text, at, name, number as u64);

@@ -8,7 +8,7 @@ ghost use lib.Seq.{sets};
 ghost use Rattle.script.specs.Input.{piece};
 
 // What stands in the chunk from at on, and at most so many bytes of it.
-fn part(chunk: &[u8], at: usize, most: usize) -> &[u8]
+pub fn part(chunk: &[u8], at: usize, most: usize) -> &[u8]
     ensures { λ r. ⌜ now r ≡ take most (drop at (now (chunk .entry))) ⌝ }
 {
     if chunk.len() <= at {

@@ -10,6 +10,7 @@ pub use answer::Word;
 pub use answer::write_answer;
 pub use hex::put_field;
 pub use hex::put_hex;
+pub use input::part;
 pub use input::take_line;
 pub use line::Parsed;
 pub use line::Verb;

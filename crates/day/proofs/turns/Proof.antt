@@ -1,27 +1,30 @@
 -- `day::turns` meets its contract.
 -- Assumes nothing.
 use mathlib.Core.Path.{_≡_, refl, _∙_}
-use Prim.Native.Nat.{_-_, _≤_}
+use Prim.Native.Nat.{_-_}
 use native.Mathlib.Omega.{arith}
-use Rattle.calls.specs.Call.{final}
-use Rattle.hub.specs.Hub.{onHub}
-use Rattle.day.specs.Day.{callsFrom}
-use Rattle.day.proofs.CallList.{calls-next, calls-end}
+use borrow.Author.Needs.{needs}
+use lib.ListN.{length}
+use denote.Ref.{now}
+use Rattle.script.proofs.Texts.{wrote-length}
+use Rattle.day.proofs.Plans.{TurnsLeft, turns-begin, turns-next, turns-end}
 use Rattle.day.proofs.turns.Statement.{statement}
 use Rattle.day.proofs.turns.Tie as tie
 
 abbrev Inv-loop : tie.InvT-loop
-Inv-loop bytes first end current₀ i₀ current i =
-    (first ≤ i) × (i ≤ end) × (final onHub current (callsFrom i (end - i) bytes) ≡ final onHub current₀ (callsFrom first (end - first) bytes))
+Inv-loop first end sample text₀ at current₀ i₀ text current i = (length text ≡ length text₀) × TurnsLeft first end sample (current₀ .hub) text₀ at i text current
 
 abbrev μ-loop : tie.MeasureT-loop
-μ-loop bytes first end current₀ i₀ current i = end - i
+μ-loop first end sample text₀ at current₀ i₀ text current i = end - i
 
 loop-holds : tie.Need-loop-holds Inv-loop μ-loop
-loop-holds c = (omega arith, omega arith, refl)
+loop-holds c = let a = c .before .before .args in (refl, turns-begin (a .first) (a .end) (now (a .sample)) (a .before) (now (a .text)) (a .at) (c .before .before .pre))
 
 turn-requires : tie.Need-turn-requires Inv-loop μ-loop
-turn-requires c κs = (omega arith, omega arith)
+turn-requires c κs = search needs
+
+make-requires : tie.Need-make-requires Inv-loop μ-loop
+make-requires c κs = search needs
 
 add-i : tie.Need-add-i Inv-loop μ-loop
 add-i c = omega arith
@@ -30,14 +33,28 @@ loop-less : tie.Need-loop-less Inv-loop μ-loop
 loop-less c = omega arith
 
 loop-again : tie.Need-loop-again Inv-loop μ-loop
-loop-again c =
-    let l = c .before .before .loop in
-    (omega arith, omega arith, calls-next _ _ (l .i) (l .current) _ (omega arith) (c .turn .ensures) ∙ l .inv .2)
+loop-again c = (
+  wrote-length (c .before .before .make .ensures .text) ∙ c .before .before .before .before .before .before .before .loop .inv .0,
+  turns-next (omega arith) (c .before .before .before .before .before .before .before .loop .inv .1) (rw (c .before .before .before .before .turn .ensures) at (c .before .before .make .ensures)),
+)
+
+same-length : tie.Need-same-length Inv-loop μ-loop
+same-length c = c .before .loop .inv .0
 
 returns : tie.Need-returns Inv-loop μ-loop
-returns c = calls-end _ _ (c .before .loop .i) (c .before .loop .current) (omega arith) ∙ c .before .loop .inv .2
+returns c = turns-end (omega arith) (c .before .loop .inv .1)
 
 pub turns-spec : {M : Type 1} → statement M
 turns-spec =
     tie.close
-    (tie.spec Inv-loop μ-loop loop-holds turn-requires add-i loop-less loop-again returns)
+    (tie.spec
+    Inv-loop
+    μ-loop
+    loop-holds
+    turn-requires
+    make-requires
+    add-i
+    loop-less
+    loop-again
+    same-length
+    returns)

@@ -1,0 +1,163 @@
+-- The plan's calls, turns and steps, one after the other.
+-- Assumes nothing.
+use mathlib.Core.Path.{_≡_, refl, sym, ap, _∙_, subst}
+use mathlib.Core.List.{List, [], _∷_}
+use Prim.Native.Nat.{ℕ, suc, _+_, _-_, _*_, _/_, _%_, _≤_, _<_, min}
+use native.Mathlib.Numerals.{add-one}
+use native.Mathlib.Omega.{arith}
+use native.Mathlib.Decide.{decLe}
+use borrow.Author.Tests.{lt-ltb, le-ltb}
+use lib.ListN.{length, getD, take, drop, drop-of-length-le}
+use lib.Seq.{drop-cons, take-all}
+use Rattle.calls.specs.Call.{Call, Open, Feed, Draw, Check, Close, Sum, final, events}
+use Rattle.calls.proofs.Repeats.{one-less, none-left}
+use Rattle.hub.specs.declared.Hub.{Hub}
+use Rattle.hub.specs.Hub.{emptyHub}
+use Rattle.script.specs.Text.{Wrote}
+use Rattle.script.proofs.Texts.{wrote-none, wrote-more, wrote-length}
+use Rattle.listing.specs.declared.Listed.{Listed}
+use Rattle.listing.specs.Listing.{Lists}
+use Rattle.listing.proofs.Lists.{lists-none, lists-next}
+use Rattle.day.specs.declared.Planned.{Planned}
+use Rattle.day.specs.declared.Planned.the-variants as planned
+use Rattle.day.specs.declared.Step.{Step}
+use Rattle.day.specs.declared.Step.the-variants.{Begin, Make, Turns, FeedOften}
+use Rattle.day.specs.Day.{cut, lent, callOf, turnAt, turnsFrom, beginText, stepAfter, stepText, Steps, planText}
+
+-- ---- which call is planned
+
+module _ (sample : List ℕ) {p : Planned} where
+  pub is-open : {mode start n : ℕ} {key : List ℕ} → p ≡ planned.Open mode start n → key ≡ cut sample start n → callOf p sample ≡ Open mode key
+  unfolding callOf
+  is-open {mode} e k = ap (λ (q : Planned). callOf q sample) e ∙ ap (Open mode) (sym k)
+
+  pub is-feed : {ticket start n : ℕ} {bytes : List ℕ} → p ≡ planned.Feed ticket start n → bytes ≡ cut sample start n → callOf p sample ≡ Feed ticket bytes
+  unfolding callOf
+  is-feed {ticket} e k = ap (λ (q : Planned). callOf q sample) e ∙ ap (Feed ticket) (sym k)
+
+  pub is-draw : {ticket n place count : ℕ} {buffer : List ℕ} → p ≡ planned.Draw ticket n place count → buffer ≡ lent n
+      → callOf p sample ≡ Draw ticket buffer place count
+  unfolding callOf
+  is-draw {ticket} {n} {place} {count} e k = ap (λ (q : Planned). callOf q sample) e ∙ ap (λ (b : List ℕ). Draw ticket b place count) (sym k)
+
+  pub is-check : {ticket start n : ℕ} {tag : List ℕ} → p ≡ planned.Check ticket start n → tag ≡ cut sample start n → callOf p sample ≡ Check ticket tag
+  unfolding callOf
+  is-check {ticket} e k = ap (λ (q : Planned). callOf q sample) e ∙ ap (Check ticket) (sym k)
+
+  pub is-close : {ticket : ℕ} → p ≡ planned.Close ticket → callOf p sample ≡ Close ticket
+  unfolding callOf
+  is-close e = ap (λ (q : Planned). callOf q sample) e
+
+  pub is-sum : p ≡ planned.Sum → callOf p sample ≡ Sum
+  unfolding callOf
+  is-sum e = ap (λ (q : Planned). callOf q sample) e
+
+-- no more bytes are lent than there are
+pub take-inside : (l : List ℕ) (n m : ℕ) → m ≡ min n (length l) → take m l ≡ take n l
+take-inside l n m e = go (decLe n (length l))
+  where
+    go : Dec (n ≤ length l) → take m l ≡ take n l
+    go (yes h) = let k : m ≡ n = omega arith in rw k
+    go (no h) = take-all m l (omega arith) ∙ sym (take-all n l (omega arith))
+
+pub as-planned : {c d : Call} {h : Hub} {first last : List ℕ} {at : ℕ} {r : Listed} → d ≡ c → Lists (c ∷ []) h first at last r → Lists (d ∷ []) h first at last r
+as-planned {c} {d} {h} {first} {last} {at} {r} e l = subst (λ (x : Call). Lists (x ∷ []) h first at last r) (sym e) l
+
+-- ---- which turn it is
+
+module _ (i : ℕ) where
+  pub opens-keyed : i < 16 → i % 4 < 2 → turnAt i ≡ planned.Open (i % 4 + 1) i 16
+  unfolding turnAt
+  opens-keyed h k = rw (lt-ltb i 16 h, lt-ltb (i % 4) 2 k)
+
+  pub opens-unkeyed : i < 16 → 2 ≤ i % 4 → turnAt i ≡ planned.Open (i % 4 + 1) i 0
+  unfolding turnAt
+  opens-unkeyed h k = rw (lt-ltb i 16 h, le-ltb (i % 4) 2 k)
+
+  pub feeds : 16 ≤ i → i < 96 → turnAt i ≡ planned.Feed (i % 16 + 1) (i % 12) (i % 37 * 5 % 37)
+  unfolding turnAt
+  feeds h k = rw (le-ltb i 16 h, lt-ltb i 96 k)
+
+  pub draws : 96 ≤ i → i < 192 → turnAt i ≡ planned.Draw (i % 16 + 1) 48 (i % 41) (i % 23 * 7 % 23)
+  unfolding turnAt
+  draws h k = rw (le-ltb i 16 (omega arith), le-ltb i 96 h, lt-ltb i 192 k)
+
+  pub closes : 192 ≤ i → turnAt i ≡ planned.Close (i / 2 % 20)
+  unfolding turnAt
+  closes h = rw (le-ltb i 16 (omega arith), le-ltb i 96 (omega arith), le-ltb i 192 h)
+
+-- the place behind a text is in the buffer
+pub wrote-inside : {l t l′ : List ℕ} {at n : ℕ} → Wrote l at t l′ n → n ≤ length l′
+wrote-inside {l} {t} {l′} {at} {n} w = omega (arith, w .place, wrote-length w)
+
+-- ---- turns: whatever lists those that are left lists all, from the first
+
+pub record TurnsLeft (first end : ℕ) (sample : List ℕ) (before : Hub) (text₀ : List ℕ) (at i : ℕ) (text : List ℕ) (current : Listed) : Type 0 where
+  pub inside : current .next ≤ length text
+  pub all : (last : List ℕ) (r : Listed) → Lists (turnsFrom i (end - i) sample) (current .hub) text (current .next) last r
+      → Lists (turnsFrom first (end - first) sample) before text₀ at last r
+
+pub turns-begin : (first end : ℕ) (sample : List ℕ) (before : Hub) (text : List ℕ) (at : ℕ) → at ≤ length text
+    → TurnsLeft first end sample before text at first text (record { hub = before; next = at })
+turns-begin first end sample before text at l = record { inside = l; all = λ last r lists. lists }
+
+pub turns-next : {first end at i : ℕ} {sample text₀ text text′ : List ℕ} {before : Hub} {current next : Listed} → i < end
+    → TurnsLeft first end sample before text₀ at i text current
+    → Lists (callOf (turnAt i) sample ∷ []) (current .hub) text (current .next) text′ next
+    → TurnsLeft first end sample before text₀ at (i + 1) text′ next
+unfolding turnsFrom
+turns-next {first} {end} {at} {i} {sample} l left made = record {
+  inside = wrote-inside (made .text);
+  all = λ last r more. left .all last r (rw (one-less end i l, add-one) (lists-next made (rw add-one at more)));
+}
+
+pub turns-end : {first end at i : ℕ} {sample text₀ text : List ℕ} {before : Hub} {current : Listed} → end ≤ i
+    → TurnsLeft first end sample before text₀ at i text current → Lists (turnsFrom first (end - first) sample) before text₀ at text current
+unfolding turnsFrom
+turns-end {first} {end} {at} {i} {sample} {text₀} {text} {before} {current} l left =
+    left .all text current (rw (none-left end i l) (lists-none (current .hub) text (current .next) (left .inside)))
+
+-- ---- steps: likewise
+
+pub record StepsLeft (plan : List Step) (sample : List ℕ) (before : Hub) (text₀ : List ℕ) (at i : ℕ) (text : List ℕ) (current : Listed) : Type 0 where
+  pub inside : current .next ≤ length text
+  pub all : (last : List ℕ) (n : ℕ) → Wrote text (current .next) (planText (drop i plan) sample (current .hub)) last n
+      → Wrote text₀ at (planText plan sample before) last n
+
+pub steps-begin : (plan : List Step) (sample : List ℕ) (before : Hub) (text : List ℕ) (at : ℕ) → at ≤ length text
+    → StepsLeft plan sample before text at 0 text (record { hub = before; next = at })
+steps-begin plan sample before text at l = record { inside = l; all = λ last n wrote. wrote }
+
+pub steps-next : {plan : List Step} {sample text₀ text text′ : List ℕ} {before : Hub} {at i : ℕ} {current next : Listed} → i < length plan
+    → StepsLeft plan sample before text₀ at i text current → Steps (getD plan i Begin) sample (current .hub) text (current .next) text′ next
+    → StepsLeft plan sample before text₀ at (i + 1) text′ next
+unfolding planText
+steps-next {plan} {sample} {text₀} {text} {text′} {before} {at} {i} {current} {next} l left made = record {
+  inside = wrote-inside (made .text);
+  all = λ last n more. left .all last n (rw (drop-cons plan i Begin l) (wrote-more (made .text)
+      (subst (λ (h : Hub). Wrote text′ (next .next) (planText (drop (suc i) plan) sample h) last n) (made .hub) (rw add-one at more))));
+}
+
+pub steps-end : {plan : List Step} {sample text₀ text : List ℕ} {before : Hub} {at i : ℕ} {current : Listed} → length plan ≤ i
+    → StepsLeft plan sample before text₀ at i text current → Wrote text₀ at (planText plan sample before) text (current .next)
+unfolding planText
+steps-end {plan} {sample} {text₀} {text} {before} {at} {i} {current} l left =
+    left .all text (current .next) (rw (drop-of-length-le plan l) (wrote-none text (current .next) (current .next) (omega (arith, left .inside))))
+
+-- ---- which step it is
+
+module _ {s : Step} {sample first last : List ℕ} {h : Hub} {at : ℕ} {r : Listed} where
+  pub as-step : {t : Step} → s ≡ t → Steps t sample h first at last r → Steps s sample h first at last r
+  as-step e made = subst (λ (x : Step). Steps x sample h first at last r) (sym e) made
+
+  pub begins : s ≡ Begin → r .hub ≡ emptyHub → Wrote first at beginText last (r .next) → Steps s sample h first at last r
+  unfolding stepAfter stepText
+  begins e hub text = as-step e (record { hub = hub; text = text })
+
+  pub makes : {p : Planned} → s ≡ Make p → Lists (callOf p sample ∷ []) h first at last r → Steps s sample h first at last r
+  unfolding stepAfter stepText
+  makes e lists = as-step e (record { hub = lists .hub; text = lists .text })
+
+  pub turns : {i end : ℕ} → s ≡ Turns i end → Lists (turnsFrom i (end - i) sample) h first at last r → Steps s sample h first at last r
+  unfolding stepAfter stepText
+  turns e lists = as-step e (record { hub = lists .hub; text = lists .text })
