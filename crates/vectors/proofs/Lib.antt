@@ -1,2 +1,3 @@
 -- Crate `vectors`: its laws.
 pub mod Text
+pub mod Lines

@@ -1,2 +1,3 @@
 -- Crate `vectors`: its definitions.
 pub mod Text
+pub mod Lines

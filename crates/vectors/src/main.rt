@@ -1,16 +1,16 @@
 // Prints the outputs of the four modes and of the short function for messages of many lengths, whose bytes count up from 0. The stored output,
-// crates/vectors/stdout, is the outside vectors: known answers that were not made with this code.
+// crates/vectors/stdout, is the outside vectors: known answers that were not made with this code. All of it is put into one buffer, which is written once.
 use mode::Mode;
 use sponge::Record;
 ghost use mathlib.Core.Path.{_≡_};
-ghost use Prim.Native.Nat.{_*_, _≤_, _<_};
-ghost use lib.ListN.{length, take};
+ghost use Prim.Native.Nat.{_≤_};
+ghost use lib.ListN.{length};
 ghost use Rattle.mode.specs.Mode.{row};
 ghost use Rattle.sponge.specs.Sponge.{oneShot};
 ghost use Rattle.sponge.specs.Record.{absorbed};
-ghost use Rattle.prf_short.specs.Short.{prfShort};
-ghost use Rattle.script.specs.Hex.{hexOf};
+ghost use Rattle.script.specs.Text.{Wrote};
 ghost use Rattle.vectors.specs.Text.{countingFrom, lengthOf};
+ghost use Rattle.vectors.specs.Lines.{line, modeLine, shortLine, modeSection, shortSection, vectors};
 
 // The longest message.
 const LONGEST: usize = 1024;
@@ -54,14 +54,6 @@ fn output(mode: Mode, key: &[u8], message: &[u8], out: &mut [u8])
     let _ = ended.squeeze(out);
 }
 
-// Two digits for each byte.
-fn hex(bytes: &[u8], text: &mut [u8])
-    requires { ⌜ 2 * length (now bytes) ≡ length (now text) ⌝ }
-    ensures { λ r. ⌜ now (text .exit) ≡ hexOf (now (bytes .entry)) ⌝ }
-{
-    let _ = script::put_hex(text, 0, bytes);
-}
-
 // The length of message number i: every length up to 129, and then some longer ones on both sides of a block's end.
 fn nth_length(i: usize) -> usize
     ensures { λ r. ⌜ r ≡ lengthOf i ⌝ }
@@ -76,85 +68,97 @@ fn nth_length(i: usize) -> usize
     0
 }
 
-// The digits of a mode's output for the first n of some bytes, the first sixteen being the key.
-fn digits(mode: Mode, bytes: &[u8], n: usize, out: &mut [u8], text: &mut [u8])
-    requires { ⌜ (16 ≤ length (now bytes)) × (n ≤ length (now bytes)) × (2 * length (now out) ≡ length (now text)) ⌝ }
-    ensures { λ r. ⌜ now (text .exit) ≡ hexOf (oneShot (row mode) (take 16 (now (bytes .entry))) (take n (now (bytes .entry))) (length (now (out .entry)))) ⌝ }
+// ---- writing: each function takes the place to write at, and answers the place after what it wrote
+
+// A number, a space, the digits of an output, and the end of the line.
+fn put_line(text: &mut [u8], at: usize, n: usize, output: &[u8]) -> usize
+    ensures { λ r. ⌜ Wrote (now (text .entry)) at (line n (now (output .entry))) (now (text .exit)) r ⌝ }
 {
-    output(mode, &bytes[..16], &bytes[..n], &mut *out);
-    hex(&*out, text);
+    let after_number = script::put_decimal(text, at, n as u64);
+    let digits_at = script::put_byte(text, after_number, b' ');
+    let after_digits = script::put_hex(text, digits_at, output);
+    script::put_byte(text, after_digits, b'\n')
 }
 
-// Prints a length, a space, digits, and the end of the line.
-fn print_line(n: usize, text: &[u8]) {
-    io::print_decimal(1, n as u64);
-    io::write_all(1, b" ");
-    io::write_all(1, text);
-    io::write_all(1, b"\n");
+// No mode is asked for more than 64 bytes.
+fn put_mode_line(
+    text: &mut [u8],
+    at: usize,
+    bytes: &[u8],
+    mode: Mode,
+    count: usize,
+    n: usize,
+) -> usize
+    requires { ⌜ (16 ≤ length (now bytes)) × (n ≤ length (now bytes)) × (count ≤ 64) ⌝ }
+    ensures { λ r. ⌜ Wrote (now (text .entry)) at (modeLine (now (bytes .entry)) mode count n) (now (text .exit)) r ⌝ }
+{
+    let mut out = [0u8; 64];
+    output(mode, &bytes[..16], &bytes[..n], &mut out[..count]);
+    put_line(text, at, n, &out[..count])
 }
 
-// The lines of a mode: a message's length, a space, and the digits of the output.
-fn print_mode(mode: Mode, bytes: &[u8], out: &mut [u8], text: &mut [u8])
-    requires { ⌜ (1024 ≤ length (now bytes)) × (2 * length (now out) ≡ length (now text)) ⌝ }
+// With m and t in these bounds the short function refuses nothing.
+fn put_short_line(text: &mut [u8], at: usize, bytes: &[u8], m: usize, t: usize) -> usize
+    requires { ⌜ (16 ≤ length (now bytes)) × (m ≤ 16) × (1 ≤ t) × (t ≤ 16) ⌝ }
+    ensures { λ r. ⌜ Wrote (now (text .entry)) at (shortLine (now (bytes .entry)) m t) (now (text .exit)) r ⌝ }
 {
+    let mut out = [0u8; 16];
+    let _ = prf_short::prf_short(&bytes[..16], &bytes[..m], &mut out[..t], t);
+    let after_number = script::put_decimal(text, at, m as u64);
+    let line_at = script::put_byte(text, after_number, b' ');
+    put_line(text, line_at, t, &out[..t])
+}
+
+// A line for each length of a message.
+fn put_mode(
+    text: &mut [u8],
+    at: usize,
+    heading: &[u8],
+    bytes: &[u8],
+    mode: Mode,
+    count: usize,
+) -> usize
+    requires { ⌜ (1024 ≤ length (now bytes)) × (count ≤ 64) ⌝ }
+    ensures { λ r. ⌜ Wrote (now (text .entry)) at (modeSection (now (heading .entry)) (now (bytes .entry)) mode count) (now (text .exit)) r ⌝ }
+{
+    let mut next = script::put_bytes(text, at, heading);
     let mut i = 0;
     while i < 139 {
-        let n = nth_length(i);
-        digits(mode, bytes, n, &mut *out, &mut *text);
-        print_line(n, &*text);
+        next = put_mode_line(text, next, bytes, mode, count, nth_length(i));
         i += 1;
     }
+    next
 }
 
-// The digits of the short function's output for the first m of some bytes, as many bytes as are lent for it; the first sixteen are the key.
-fn short_digits(bytes: &[u8], m: usize, out: &mut [u8], text: &mut [u8])
-    requires { ⌜ (16 ≤ length (now bytes)) × (m ≤ 16) × (1 ≤ length (now out)) × (length (now out) ≤ 16) × (2 * length (now out) ≡ length (now text)) ⌝ }
-    ensures { λ r. ⌜ now (text .exit) ≡ hexOf (prfShort (take 16 (now (bytes .entry))) (take m (now (bytes .entry))) (length (now (out .entry)))) ⌝ }
+// A line for each message of 0 to 16 bytes and each length of an output, 1 to 16.
+fn put_short(text: &mut [u8], at: usize, heading: &[u8], bytes: &[u8]) -> usize
+    requires { ⌜ 16 ≤ length (now bytes) ⌝ }
+    ensures { λ r. ⌜ Wrote (now (text .entry)) at (shortSection (now (heading .entry)) (now (bytes .entry))) (now (text .exit)) r ⌝ }
 {
-    let count = out.len();
-    let _ = prf_short::prf_short(&bytes[..16], &bytes[..m], &mut *out, count);
-    hex(&*out, text);
-}
-
-// A line of the short function: the lengths of message and output, and the digits of the output.
-fn print_short_line(bytes: &[u8], m: usize, out: &mut [u8], text: &mut [u8])
-    requires { ⌜ (16 ≤ length (now bytes)) × (m ≤ 16) × (1 ≤ length (now out)) × (length (now out) ≤ 16) × (2 * length (now out) ≡ length (now text)) ⌝ }
-{
-    short_digits(bytes, m, &mut *out, &mut *text);
-    io::print_decimal(1, m as u64);
-    io::write_all(1, b" ");
-    print_line(out.len(), &*text);
-}
-
-// The lines of the short function: for each message of 0 to 16 bytes an output of each length, 1 to 16.
-fn print_short(bytes: &[u8], out: &mut [u8], text: &mut [u8])
-    requires { ⌜ (16 ≤ length (now bytes)) × (16 ≤ length (now out)) × (32 ≤ length (now text)) ⌝ }
-{
+    let mut next = script::put_bytes(text, at, heading);
     let mut i = 0;
     while i < 17 * 16 {
-        let t = i % 16 + 1;
-        print_short_line(bytes, i / 16, &mut out[..t], &mut text[..2 * t]);
+        next = put_short_line(text, next, bytes, i / 16, i % 16 + 1);
         i += 1;
     }
+    next
 }
 
-// The lines of all modes, each after its name.
-fn print_modes(bytes: &[u8])
-    requires { ⌜ 1024 ≤ length (now bytes) ⌝ }
+// All of it, from the start of the buffer on.
+fn put_vectors(text: &mut [u8]) -> usize
+    ensures { λ r. ⌜ Wrote (now (text .entry)) 0 vectors (now (text .exit)) r ⌝ }
 {
-    io::write_all(1, b"hash\n");
-    print_mode(Mode::Hash, bytes, &mut [0u8; 32], &mut [0u8; 64]);
-    io::write_all(1, b"xof\n");
-    print_mode(Mode::Xof, bytes, &mut [0u8; 64], &mut [0u8; 128]);
-    io::write_all(1, b"prf\n");
-    print_mode(Mode::Prf, bytes, &mut [0u8; 64], &mut [0u8; 128]);
-    io::write_all(1, b"mac\n");
-    print_mode(Mode::Mac, bytes, &mut [0u8; 16], &mut [0u8; 32]);
+    let bytes = counting();
+    let xof_at = put_mode(text, 0, b"hash\n", &bytes, Mode::Hash, 32);
+    let prf_at = put_mode(text, xof_at, b"xof\n", &bytes, Mode::Xof, 64);
+    let mac_at = put_mode(text, prf_at, b"prf\n", &bytes, Mode::Prf, 64);
+    let short_at = put_mode(text, mac_at, b"mac\n", &bytes, Mode::Mac, 16);
+    put_short(text, short_at, b"prf_short\n", &bytes)
 }
 
+// The buffer is longer than the text, which has 57,522 bytes.
 fn main() {
-    let bytes = counting();
-    print_modes(&bytes);
-    io::write_all(1, b"prf_short\n");
-    print_short(&bytes, &mut [0u8; 16], &mut [0u8; 32]);
+    let mut text = [0u8; 65536];
+    let end = put_vectors(&mut text);
+    io::write_all(1, &text[..end]);
 }
