@@ -87,17 +87,17 @@ drawing =
     -- of a hash 32 bytes in all; 3 before 17
     ∷ (Draw 1 (zeros 40) 0 31, refused 17) ∷ (Draw 1 (zeros 40) 0 30, counted 5) ∷ (Draw 1 (zeros 40) 0 1, refused 17) ∷ (Draw 1 [] 0 0, counted 5)
     ∷ (Draw 1 [] 0 1, refused 3) ∷ (Open 3 [], opened 4 1) ∷ (Draw 4 (zeros 33) 0 33, refused 17) ∷ (Draw 4 (zeros 33) 1 32, counted 5)
-    -- of a MAC 16
-    ∷ (Draw 2 (zeros 17) 0 17, refused 17) ∷ (Draw 2 (zeros 16) 0 17, refused 3) ∷ (Feed 2 [], counted 1) ∷ (Draw 2 (zeros 17) 1 16, counted 2)
+    -- of a MAC 16; 31 bytes fed to it fill no block
+    ∷ (Draw 2 (zeros 17) 0 17, refused 17) ∷ (Draw 2 (zeros 16) 0 17, refused 3) ∷ (Feed 2 (zeros 31), counted 1) ∷ (Draw 2 (zeros 17) 1 16, counted 2)
     ∷ (Draw 2 (zeros 1) 0 1, refused 17)
     -- no run is made until a byte beyond the block is drawn
     ∷ (Draw 3 (zeros 16) 0 16, counted 2) ∷ (Draw 3 (zeros 1) 0 1, counted 3)
     -- 12 before 3 and 17
     ∷ (Close 1, counted 5) ∷ (Draw 1 [] 0 1, refused 12) ∷ (Draw 1 (zeros 1) 0 1, refused 12) ∷ (Sum, summed 15) ∷ []
 
--- whether a tag is the MAC of no bytes under the key of zeros: left as it is, no run is computed
+-- whether a tag is the MAC of 32 zeros under the key of zeros: left as it is, no run is computed
 abbrev verdict : List ℕ → Bool
-verdict tag = same tag (oneShot (row Mac) (zeros 16) [] (length tag))
+verdict tag = same tag (oneShot (row Mac) (zeros 16) (zeros 32) (length tag))
 
 abbrev checking : Table
 checking =
@@ -107,13 +107,14 @@ checking =
     -- only of mode 2; 18 before 4
     ∷ (Check 2 (zeros 16), refused 18) ∷ (Check 3 (zeros 16), refused 18) ∷ (Check 4 (zeros 16), refused 18) ∷ (Check 2 (zeros 7), refused 18)
     ∷ (Check 3 (zeros 17), refused 18)
-    -- a tag of 8 to 16 bytes
+    -- a tag of 8 to 16 bytes; 32 bytes fed are a block
     ∷ (Check 1 [], refused 4) ∷ (Check 1 (zeros 7), refused 4) ∷ (Check 1 (zeros 17), refused 4)
-    ∷ (Feed 1 [], counted 1) ∷ (Check 1 (zeros 8), judged (verdict (zeros 8)) 2) ∷ (Check 1 (zeros 16), judged (verdict (zeros 16)) 2)
+    ∷ (Feed 1 (zeros 31), counted 1) ∷ (Feed 1 (zeros 1), counted 2)
+    ∷ (Check 1 (zeros 8), judged (verdict (zeros 8)) 3) ∷ (Check 1 (zeros 16), judged (verdict (zeros 16)) 3)
     -- an accepted check ends feeding, and draws nothing
-    ∷ (Feed 1 [], refused 15) ∷ (Draw 1 (zeros 17) 0 17, refused 17) ∷ (Draw 1 (zeros 16) 0 16, counted 2)
+    ∷ (Feed 1 [], refused 15) ∷ (Draw 1 (zeros 17) 0 17, refused 17) ∷ (Draw 1 (zeros 16) 0 16, counted 3)
     -- 12 before 18 and 4
-    ∷ (Close 1, counted 2) ∷ (Check 1 (zeros 7), refused 12) ∷ (Close 2, counted 1) ∷ (Check 2 (zeros 16), refused 12) ∷ (Sum, summed 5) ∷ []
+    ∷ (Close 1, counted 3) ∷ (Check 1 (zeros 7), refused 12) ∷ (Close 2, counted 1) ∷ (Check 2 (zeros 16), refused 12) ∷ (Sum, summed 6) ∷ []
 
 pub boundaries : Answered script × Answered opening × Answered feeding × Answered drawing × Answered checking
 unfolding events machine emptyMachine openMachine openChecks named row admit newEntry runsOf formula runsFeeding runsEnded ceiling start openCount total feedMachine drawMachine checkMachine closeMachine ticketChecks feedChecks feedOwn drawChecks drawOwn checkChecks checkOwn standingOf entryOf placeOf find afterFeed afterDraw afterClose put sumMachine outputOf

@@ -1,6 +1,6 @@
--- One output of the PRF, the hash and the XOF each, which the checker computes: of a message that fills a block, so that a block of padding follows it, and with a byte more
--- than a block of output has. The theorem on streaming holds for any row; these hold the rows of the table. Each begins a line of crates/vectors/stdout; crate frame has
--- one of the MAC.
+-- One output of each mode, which the checker computes. Of the PRF, the hash and the XOF: of a message that fills a block, so that a block of padding follows it, and with a
+-- byte more than a block of output has. Of the MAC: of 40 bytes, more than one block, so that another feed rate gives another tag. The theorem on streaming holds for any
+-- row; these hold the rows of the table. Each begins a line of crates/vectors/stdout.
 -- Assumes nothing.
 use mathlib.Core.List.{List, [], _∷_, _++_}
 use mathlib.Core.Path.{_≡_, refl}
@@ -8,7 +8,7 @@ use Prim.Native.Nat.{ℕ}
 use Rattle.word.specs.Word.{bit, word, number, column, rotr}
 use Rattle.word.specs.Bytes.{weight, byteAt, bytesFrom, xorWord, xorAt, xorFrom, fromBytes, toBytes, wordsOf, zerosTo}
 use Rattle.permutation.specs.Permutation.{addConstant, sbox, atEveryPlace, substitute, mix, diffuse, round, permute}
-use Rattle.mode.specs.declared.Mode.the-variants.{Prf, Hash, Xof}
+use Rattle.mode.specs.declared.Mode.the-variants.{Prf, Mac, Hash, Xof}
 use Rattle.mode.specs.Mode.{row}
 use Rattle.sponge.specs.Sponge.{
   ceiling,
@@ -26,7 +26,7 @@ use Rattle.sponge.specs.Sponge.{
   oneShot,
 }
 
--- the bytes 00 to 07, 00 to 0f and 00 to 1f
+-- the bytes 00 to 07, 00 to 0f, 00 to 1f and 00 to 27
 abbrev eight : List ℕ
 eight = 0 ∷ 1 ∷ 2 ∷ 3 ∷ 4 ∷ 5 ∷ 6 ∷ 7 ∷ []
 
@@ -36,10 +36,15 @@ sixteen = eight ++ 8 ∷ 9 ∷ 10 ∷ 11 ∷ 12 ∷ 13 ∷ 14 ∷ 15 ∷ []
 abbrev thirty-two : List ℕ
 thirty-two = sixteen ++ 16 ∷ 17 ∷ 18 ∷ 19 ∷ 20 ∷ 21 ∷ 22 ∷ 23 ∷ 24 ∷ 25 ∷ 26 ∷ 27 ∷ 28 ∷ 29 ∷ 30 ∷ 31 ∷ []
 
+abbrev forty : List ℕ
+forty = thirty-two ++ 32 ∷ 33 ∷ 34 ∷ 35 ∷ 36 ∷ 37 ∷ 38 ∷ 39 ∷ []
+
 pub known-outputs :
     (oneShot (row Prf) sixteen thirty-two 17
     ≡ 0x56 ∷ 0x74 ∷ 0x45 ∷ 0x5f ∷ 0x29 ∷ 0x41 ∷ 0x6f ∷ 0x50 ∷ 0x81 ∷ 0xd0 ∷ 0x5e ∷ 0xe3 ∷ 0xc3 ∷ 0x1e ∷ 0x28 ∷ 0x6b ∷ 0xdc ∷ [])
+    × (oneShot (row Mac) sixteen forty 16
+    ≡ 0x47 ∷ 0x6e ∷ 0xae ∷ 0xc5 ∷ 0xac ∷ 0x60 ∷ 0x84 ∷ 0x97 ∷ 0x65 ∷ 0x01 ∷ 0x44 ∷ 0x6e ∷ 0xaf ∷ 0x61 ∷ 0x80 ∷ 0xb5 ∷ [])
     × (oneShot (row Hash) [] eight 9 ≡ 0xf4 ∷ 0xc6 ∷ 0xa4 ∷ 0x4b ∷ 0x29 ∷ 0x91 ∷ 0x5d ∷ 0x3d ∷ 0x57 ∷ [])
     × (oneShot (row Xof) [] eight 9 ≡ 0x18 ∷ 0x42 ∷ 0x7d ∷ 0x2d ∷ 0x29 ∷ 0xdf ∷ 0x1e ∷ 0x02 ∷ 0x02 ∷ [])
 unfolding bit word number column rotr weight byteAt bytesFrom xorWord xorAt xorFrom fromBytes toBytes wordsOf zerosTo addConstant sbox atEveryPlace substitute mix diffuse round permute row ceiling initial start pad cut blocks flipIf absorbBlocks absorbMessage squeezeBlocks squeezeBytes output oneShot
-known-outputs = (refl, refl, refl)
+known-outputs = (refl, refl, refl, refl)
