@@ -1,5 +1,5 @@
 /* What sign firmware calls beside the same in plain C: sealing, which is the MAC of a body written after it, and the short function, of messages as long as those of
- * source document 003's table 5; and judging. */
+ * table 5 of "Ascon PRF, MAC, and Short-Input MAC" (source document 003); and judging. */
 #include "measure.h"
 #include "parts.h"
 #include "plain.h"

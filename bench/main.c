@@ -1,5 +1,6 @@
 /* Prints the table of benchmarks: what is counted, the table itself, and what its columns are. bench/run builds and calls it with the two script programs, a folder
- * to write to, and the number of pairs, of batches and of runs of a script. */
+ * to write to, and the number of pairs, of batches and of runs of a script. What it prints names "Ascon PRF, MAC, and Short-Input MAC" (source document 003)
+ * by its number; docs/BENCHMARKS.md has the title. */
 #include "counter.h"
 #include "measure.h"
 #include "parts.h"

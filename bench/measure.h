@@ -11,9 +11,10 @@ enum side { PROVED, PLAIN, SIDES };
 /* What a line of the table is about. */
 struct row {
     const char *what;
-    size_t bytes;          /* that one call takes in; 0 where a figure by the byte means nothing */
-    int calls;             /* in a batch */
-    const char *table5[2]; /* cycles per byte in table 5 of source document 003, for the i5-6300U and the i5-4200U; null where it has none */
+    size_t bytes; /* that one call takes in; 0 where a figure by the byte means nothing */
+    int calls;    /* in a batch */
+    /* cycles per byte in table 5 of "Ascon PRF, MAC, and Short-Input MAC" (source document 003), for the i5-6300U and the i5-4200U; null where it has none */
+    const char *table5[2];
 };
 
 /* One figure of both sides, pair by pair. */

@@ -1,4 +1,4 @@
--- The checks of document 01's "Tickets", each call's in the paper's order, with the numbers of "Refused". The hub and the plain machine answer by these same lists:
+-- The checks of document 01's "Tickets", each call's in its order there, with the numbers of "Refused". The hub and the plain machine answer by these same lists:
 -- what the checks ask about a ticket is its standing, which each of the two works out in its own way.
 -- Assumes nothing.
 use mathlib.Core.Bool.{Bool, true, false, not, _||_}

@@ -110,7 +110,7 @@ finished r = cond (complete (r .session)) (silent r) (consumed r (newline ∷ []
 
 -- ---- filling an output buffer
 
--- no answer is longer
+-- no answer is longer, whatever the hub holds; of a script none has more than 2,060 bytes
 abbrev pub longestAnswer : ℕ
 longestAnswer = 2075
 

@@ -35,7 +35,8 @@ impl Session {
     // A script has at most so many lines, that of the names among them.
     pub const MOST_LINES: u32 = 1_000_000;
 
-    // No answer line has more bytes.
+    // No answer line has more bytes, whatever the hub holds: a word of 4, a number of 20 digits, 2,048 digits, two spaces and a newline. Of a script none has more than
+    // 2,060.
     pub const LONGEST_ANSWER: usize = 2075;
 
     // Line 1 is to be read, on an empty hub.

@@ -27,7 +27,7 @@ row Mac = record { feedRate = 32; drawRate = 16; startWord = 0x8080_8c00_0000_00
 row Hash = record { feedRate = 8; drawRate = 8; startWord = 0x0040_0c00_0000_0100; keyLength = 0; mostDrawn = 32; flips = false }
 row Xof = record { feedRate = 8; drawRate = 8; startWord = 0x0040_0c00_0000_0000; keyLength = 0; mostDrawn = 1048576; flips = false }
 
--- the paper's number of a mode
+-- document 01's number of a mode
 abbrev pub numberOf : Mode → ℕ
 numberOf Prf = 1
 numberOf Mac = 2

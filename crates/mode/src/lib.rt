@@ -40,7 +40,7 @@ impl Mode {
 
     pub const HASH_OUTPUT: usize = 32;
 
-    // The paper's number of the mode.
+    // Document 01's number of the mode.
     pub fn number(self) -> u32
         ensures { λ r. ⌜ r ≡ numberOf self ⌝ }
     {

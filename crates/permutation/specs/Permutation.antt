@@ -1,5 +1,5 @@
 -- The Ascon permutation: document 01, "Five words, twelve rounds". A state is the list of its five words, x0 first (specs/State.antt).
--- The names of section 3 of source document 003 stand in brackets.
+-- The names of section 3 of "Ascon PRF, MAC, and Short-Input MAC" (source document 003) stand in brackets.
 -- Assumes nothing.
 use mathlib.Core.List.{List, [], _∷_, map}
 use Prim.Native.Nat.{ℕ, zero, suc, _-_, _*_}
@@ -54,7 +54,8 @@ diffuse s = mix 19 28 (at s 0) ∷ mix 61 39 (at s 1) ∷ mix 1 6 (at s 2) ∷ m
 unfoldable pub round : ℕ → List ℕ → List ℕ
 round i s = diffuse (substitute (addConstant i s))
 
--- the last n of the twelve rounds, n up to 12: round 12 - n, then the last n - 1. [p^12] is all of them; which rounds a smaller n has, source document 001 says
+-- the last n of the twelve rounds, n up to 12: round 12 - n, then the last n - 1. [p^12] is all of them; which rounds a smaller n
+-- has, the slides "ASCON" (source document 001) say
 unfoldable pub permute : ℕ → List ℕ → List ℕ
 permute zero s = s
 permute (suc n) s = permute n (round (12 - suc n) s)

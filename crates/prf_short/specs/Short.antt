@@ -1,5 +1,5 @@
--- The short function: document 01's "Short function and frames", which is Algorithm 3 of source document 003, whose symbols stand in brackets.
--- Key, message and output are lists of bytes, and a state is read as forty.
+-- The short function: document 01's "Short function and frames", which is Algorithm 3 of "Ascon PRF, MAC, and Short-Input MAC" (source document 003), whose symbols
+-- stand in brackets. Key, message and output are lists of bytes, and a state is read as forty.
 -- Assumes nothing.
 use mathlib.Core.List.{List, [], _∷_, _++_}
 use Prim.Native.Nat.{ℕ, _-_, _*_}

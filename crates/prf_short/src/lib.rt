@@ -1,4 +1,5 @@
-// Document 01's short function, ASCON-PRFSHORT of source document 003: an output of up to sixteen bytes for a message of up to sixteen, by one permutation.
+// Document 01's short function, ASCON-PRFSHORT of "Ascon PRF, MAC, and Short-Input MAC" (source document 003): an output of up to sixteen bytes for a message of up to sixteen,
+// by one permutation.
 ghost use mathlib.Core.Path.{_≡_};
 ghost use Prim.Native.Nat.{_≤_};
 ghost use lib.ListN.{length};

@@ -1,5 +1,6 @@
--- The sponge as the papers have it: Algorithm 1 of source document 003, and the hashing steps of source document 001. One definition for every mode, over
--- the row of its table. Their symbols stand in brackets. A state is a list of five words, and read as bytes begins with the top byte of x0.
+-- The sponge as the papers have it: Algorithm 1 of "Ascon PRF, MAC, and Short-Input MAC" (source document 003), and the hashing steps of the slides "ASCON"
+-- (source document 001). One definition for every mode, over the row of its table. Their symbols stand in brackets. A state is a list of five words, and read as
+-- bytes begins with the top byte of x0.
 -- Assumes nothing.
 use mathlib.Core.Bool.{Bool, cond}
 use mathlib.Core.List.{List, [], _∷_, _++_}

@@ -1,4 +1,4 @@
-//! Ascon, written from the papers for comparison alone: plain, from the printed tables, and sharing nothing with the code under test.
+//! Ascon, written for comparison alone from "Ascon PRF, MAC, and Short-Input MAC" (source document 003), "Additional Modes for Ascon" (source document 004) and the slides "ASCON" (source document 001): plain, from the printed tables, and sharing nothing with the code under test.
 
 pub mod listing;
 pub mod machine;

@@ -11,7 +11,7 @@ pub struct Mode {
     pub keyed: bool,
 }
 
-/// ASCON-PRF, source document 003, table 2 and its start value for output of any length.
+/// ASCON-PRF: "Ascon PRF, MAC, and Short-Input MAC" (source document 003), table 2, and its start value for output of any length.
 pub const PRF: Mode = Mode {
     number: 1,
     start: 0x80808c0000000000,
@@ -29,7 +29,7 @@ pub const MAC: Mode = Mode {
     ..PRF
 };
 
-/// ASCON-HASH, source document 004's table of start values.
+/// ASCON-HASH: "Additional Modes for Ascon" (source document 004), its table of start values.
 pub const HASH: Mode = Mode {
     number: 3,
     start: 0x00400c0000000100,
@@ -150,7 +150,7 @@ fn permute_bytes(permute: impl Fn(&mut [u64; 5]), state: &mut [u8; 40]) {
     }
 }
 
-/// The short function, source document 003, algorithm 3: an output of 1 to 16 bytes for a message of at most 16, over any permutation of five words.
+/// The short function, algorithm 3 of 003: an output of 1 to 16 bytes for a message of at most 16, over any permutation of five words.
 pub fn prf_short(
     permute: impl Fn(&mut [u64; 5]),
     key: &[u8; 16],
