@@ -1,24 +1,53 @@
--- The rounds, one after the other: what a loop that makes them is left with.
+-- The rounds, one after the other: what a loop that makes them is left with, and what the answers that it keeps list.
 -- Assumes nothing.
-use mathlib.Core.Path.{_≡_}
-use mathlib.Core.List.{List}
-use Prim.Native.Nat.{ℕ, _+_, _-_, _≤_, _<_}
+use mathlib.Core.Path.{_≡_, refl, sym, ap, _∙_}
+use mathlib.Core.List.{List, [], _∷_}
+use Prim.Native.Nat.{ℕ, suc, _+_, _-_, _*_, _≤_, _<_}
 use native.Mathlib.Numerals.{add-one}
+use native.Mathlib.Omega.{arith}
+use borrow.Author.Tests.{lt-ltb, le-ltb}
+use lib.ListN.{set}
+use lib.Seq.{sets}
+use Rattle.calls.specs.declared.Answer.{Answer}
 use Rattle.calls.proofs.Repeats.{one-less, none-left}
-use Rattle.calls.specs.Call.{final}
 use Rattle.hub.specs.declared.Hub.{Hub}
-use Rattle.hub.specs.Hub.{onHub, feedHub, closeHub}
-use Rattle.mainloop.specs.Rounds.{feedTicket, closeTicket, roundsFrom}
+use Rattle.hub.specs.declared.Reply.{Reply}
+use Rattle.hub.specs.Hub.{feedHub, closeHub, replyOf}
+use Rattle.mainloop.specs.declared.Answers.{Answers}
+use Rattle.mainloop.specs.declared.Served.{Served}
+use Rattle.mainloop.specs.Rounds.{feedTicket, closeTicket, keep, roundOn, servedFrom}
 
--- the hub after round i
+-- ---- the answers of a round are kept
+
+pub kept-both : (i : ℕ) (fed closed : Answer) (a : Answers) → i < 150 → record { kept = set (set (a .kept) (2 * i) fed) (2 * i + 1) closed } ≡ keep i fed closed a
+unfolding keep
+kept-both i fed closed a h = rw (lt-ltb i 150 h, add-one)
+
+pub kept-none : (i : ℕ) (fed closed : Answer) (a : Answers) → 150 ≤ i → a ≡ keep i fed closed a
+unfolding keep
+kept-none i fed closed a h = rw (le-ltb i 150 h)
+
+-- ---- a loop that makes rounds
+
+-- the hub and the answers after round i
 abbrev pub afterRound : ℕ → List ℕ → Hub → Hub
 afterRound i bytes h = closeHub (closeTicket i) (feedHub (feedTicket i) bytes h .after) .after
 
-pub rounds-next : (bytes : List ℕ) (n i : ℕ) (h after : Hub) → i < n → after ≡ afterRound i bytes h
-    → final onHub after (roundsFrom (i + 1) (n - (i + 1)) bytes) ≡ final onHub h (roundsFrom i (n - i) bytes)
-unfolding roundsFrom final onHub
-rounds-next bytes n i h after l e = rw (one-less n i l, e, add-one)
+abbrev pub keptRound : ℕ → List ℕ → Hub → Answers → Answers
+keptRound i bytes h a =
+    keep i (feedHub (feedTicket i) bytes h .response .answer) (closeHub (closeTicket i) (feedHub (feedTicket i) bytes h .after) .response .answer) a
 
-pub rounds-end : (bytes : List ℕ) (n i : ℕ) (h : Hub) → n ≤ i → h ≡ final onHub h (roundsFrom i (n - i) bytes)
-unfolding roundsFrom final
-rounds-end bytes n i h l = rw (none-left n i l)
+pub round-made : (i : ℕ) (bytes : List ℕ) (h : Hub) (a : Answers) {t u : ℕ} {fed closed : Reply} {kept : Answers}
+    → t ≡ feedTicket i → fed ≡ replyOf (feedHub t bytes h) → u ≡ closeTicket i → closed ≡ replyOf (closeHub u (fed .hub)) → kept ≡ keep i (fed .answer) (closed .answer) a
+    → Path Served (record { hub = closed .hub; answers = kept }) (record { hub = afterRound i bytes h; answers = keptRound i bytes h a })
+round-made i bytes h a et ef eu ec ek = rw (ek, ec, ef, et, eu)
+
+pub rounds-next : (bytes : List ℕ) (n i : ℕ) (h : Hub) (a : Answers) → i < n
+    → servedFrom (i + 1) (n - (i + 1)) bytes (record { hub = afterRound i bytes h; answers = keptRound i bytes h a })
+    ≡ servedFrom i (n - i) bytes (record { hub = h; answers = a })
+unfolding servedFrom roundOn
+rounds-next bytes n i h a l = rw (one-less n i l, add-one)
+
+pub rounds-end : (bytes : List ℕ) (n i : ℕ) (s : Served) → n ≤ i → s ≡ servedFrom i (n - i) bytes s
+unfolding servedFrom
+rounds-end bytes n i s l = rw (none-left n i l)
