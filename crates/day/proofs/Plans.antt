@@ -14,10 +14,9 @@ use Rattle.calls.proofs.Repeats.{one-less, none-left}
 use Rattle.hub.specs.declared.Hub.{Hub}
 use Rattle.hub.specs.Hub.{emptyHub}
 use Rattle.script.specs.Text.{Wrote}
-use Rattle.script.proofs.Texts.{wrote-none, wrote-more, wrote-length}
+use Rattle.script.proofs.Texts.{wrote-none, wrote-more, wrote-inside}
 use Rattle.listing.specs.declared.Listed.{Listed}
 use Rattle.listing.specs.Listing.{Lists}
-use Rattle.listing.proofs.Lists.{lists-none, lists-next}
 use Rattle.day.specs.declared.Planned.{Planned}
 use Rattle.day.specs.declared.Planned.the-variants as planned
 use Rattle.day.specs.declared.Step.{Step}
@@ -86,38 +85,17 @@ module _ (i : ℕ) where
   unfolding turnAt
   closes h = rw (le-ltb i 16 (omega arith), le-ltb i 96 (omega arith), le-ltb i 192 h)
 
--- the place behind a text is in the buffer
-pub wrote-inside : {l t l′ : List ℕ} {at n : ℕ} → Wrote l at t l′ n → n ≤ length l′
-wrote-inside {l} {t} {l′} {at} {n} w = omega (arith, w .place, wrote-length w)
+-- ---- turns that are left
 
--- ---- turns: whatever lists those that are left lists all, from the first
-
-pub record TurnsLeft (first end : ℕ) (sample : List ℕ) (before : Hub) (text₀ : List ℕ) (at i : ℕ) (text : List ℕ) (current : Listed) : Type 0 where
-  pub inside : current .next ≤ length text
-  pub all : (last : List ℕ) (r : Listed) → Lists (turnsFrom i (end - i) sample) (current .hub) text (current .next) last r
-      → Lists (turnsFrom first (end - first) sample) before text₀ at last r
-
-pub turns-begin : (first end : ℕ) (sample : List ℕ) (before : Hub) (text : List ℕ) (at : ℕ) → at ≤ length text
-    → TurnsLeft first end sample before text at first text (record { hub = before; next = at })
-turns-begin first end sample before text at l = record { inside = l; all = λ last r lists. lists }
-
-pub turns-next : {first end at i : ℕ} {sample text₀ text text′ : List ℕ} {before : Hub} {current next : Listed} → i < end
-    → TurnsLeft first end sample before text₀ at i text current
-    → Lists (callOf (turnAt i) sample ∷ []) (current .hub) text (current .next) text′ next
-    → TurnsLeft first end sample before text₀ at (i + 1) text′ next
+pub one-turn : (sample : List ℕ) (end i : ℕ) → i < end → turnsFrom i (end - i) sample ≡ callOf (turnAt i) sample ∷ turnsFrom (i + 1) (end - (i + 1)) sample
 unfolding turnsFrom
-turns-next {first} {end} {at} {i} {sample} l left made = record {
-  inside = wrote-inside (made .text);
-  all = λ last r more. left .all last r (rw (one-less end i l, add-one) (lists-next made (rw add-one at more)));
-}
+one-turn sample end i l = rw (one-less end i l, add-one)
 
-pub turns-end : {first end at i : ℕ} {sample text₀ text : List ℕ} {before : Hub} {current : Listed} → end ≤ i
-    → TurnsLeft first end sample before text₀ at i text current → Lists (turnsFrom first (end - first) sample) before text₀ at text current
+pub no-turn : (sample : List ℕ) (end i : ℕ) → end ≤ i → turnsFrom i (end - i) sample ≡ []
 unfolding turnsFrom
-turns-end {first} {end} {at} {i} {sample} {text₀} {text} {before} {current} l left =
-    left .all text current (rw (none-left end i l) (lists-none (current .hub) text (current .next) (left .inside)))
+no-turn sample end i l = rw (none-left end i l)
 
--- ---- steps: likewise
+-- ---- a loop that makes steps: those that are left, whatever writes them, complete the text of all
 
 pub record StepsLeft (plan : List Step) (sample : List ℕ) (before : Hub) (text₀ : List ℕ) (at i : ℕ) (text : List ℕ) (current : Listed) : Type 0 where
   pub inside : current .next ≤ length text

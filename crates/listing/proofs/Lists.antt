@@ -1,7 +1,7 @@
 -- Lists of calls that are made and written one after the other.
 -- Assumes nothing.
 use mathlib.Core.Path.{_≡_, refl, sym, ap, _∙_, subst}
-use mathlib.Core.List.{List, [], _∷_, _++_, append-nil}
+use mathlib.Core.List.{List, [], _∷_, _++_, append-nil, append-assoc}
 use Prim.Native.Nat.{ℕ, _≤_, min}
 use native.Mathlib.Omega.{arith}
 use lib.ListN.{length}
@@ -20,7 +20,7 @@ use Rattle.hub.specs.declared.Hub.{Hub}
 use Rattle.hub.specs.declared.Reply.{Reply}
 use Rattle.hub.specs.Hub.{absent, recordOf, standingOf, put, admit, openHub, feedHub, checkHub, closeHub, sumHub, onHub, replyOf}
 use Rattle.script.specs.Text.{Wrote}
-use Rattle.script.proofs.Texts.{wrote-none, wrote-more}
+use Rattle.script.proofs.Texts.{wrote-none, wrote-more, wrote-inside}
 use Rattle.listing.specs.declared.Listed.{Listed}
 use Rattle.listing.specs.Listing.{callText, responseText, line, lines, Lists}
 
@@ -28,20 +28,56 @@ use Rattle.listing.specs.Listing.{callText, responseText, line, lines, L
 abbrev pub event : Call → Hub → Event
 event c h = record { call = c; response = onHub c h .response }
 
+lines-append : (es fs : List Event) → lines (es ++ fs) ≡ lines es ++ lines fs
+unfolding lines
+lines-append [] fs = refl
+lines-append (e ∷ es) fs = ap (λ (t : List ℕ). line e ++ t) (lines-append es fs) ∙ sym (append-assoc (line e) (lines es) (lines fs))
+
+events-append : (h : Hub) (cs ds : List Call) → events onHub h (cs ++ ds) ≡ events onHub h cs ++ events onHub (final onHub h cs) ds
+unfolding events final
+events-append h [] ds = refl
+events-append h (c ∷ cs) ds = ap (λ (es : List Event). event c h ∷ es) (events-append (onHub c h .after) cs ds)
+
+final-append : (h : Hub) (cs ds : List Call) → final onHub h (cs ++ ds) ≡ final onHub (final onHub h cs) ds
+unfolding final
+final-append h [] ds = refl
+final-append h (c ∷ cs) ds = final-append (onHub c h .after) cs ds
+
 -- no call
 pub lists-none : (h : Hub) (text : List ℕ) (at : ℕ) → at ≤ length text → Lists [] h text at text (record { hub = h; next = at })
 unfolding events final lines
 lists-none h text at l = record { hub = refl; text = wrote-none text at at (omega arith) }
 
--- a call, and those after it
-pub lists-next : {c : Call} {cs : List Call} {h : Hub} {first mid last : List ℕ} {at : ℕ} {r s : Listed}
-    → Lists (c ∷ []) h first at mid r → Lists cs (r .hub) mid (r .next) last s → Lists (c ∷ cs) h first at last s
-unfolding events final lines
-lists-next {c} {cs} {h} {first} {mid} {last} {at} {r} {s} one more = record {
-  hub = more .hub ∙ ap (λ (g : Hub). final onHub g cs) (one .hub);
-  text = wrote-more (subst (λ (t : List ℕ). Wrote first at t mid (r .next)) (append-nil (line (event c h))) (one .text))
-      (subst (λ (g : Hub). Wrote mid (r .next) (lines (events onHub g cs)) last (s .next)) (one .hub) (more .text));
+-- some calls, and those after them
+pub lists-more : {cs ds : List Call} {h : Hub} {first mid last : List ℕ} {at : ℕ} {r s : Listed}
+    → Lists cs h first at mid r → Lists ds (r .hub) mid (r .next) last s → Lists (cs ++ ds) h first at last s
+lists-more {cs} {ds} {h} {first} {mid} {last} {at} {r} {s} some more = record {
+  hub = more .hub ∙ ap (λ (g : Hub). final onHub g ds) (some .hub) ∙ sym (final-append h cs ds);
+  text = subst (λ (t : List ℕ). Wrote first at t last (s .next))
+      (sym (ap lines (events-append h cs ds) ∙ lines-append (events onHub h cs) (events onHub (final onHub h cs) ds)))
+      (wrote-more (some .text) (subst (λ (g : Hub). Wrote mid (r .next) (lines (events onHub g ds)) last (s .next)) (some .hub) (more .text)));
 }
+
+-- ---- a loop that makes calls: those that are left, whatever lists them, complete the list of all
+pub record Left (calls : List Call) (before : Hub) (first : List ℕ) (at : ℕ) (left : List Call) (text : List ℕ) (current : Listed) : Type 0 where
+  pub inside : current .next ≤ length text
+  pub all : (last : List ℕ) (r : Listed) → Lists left (current .hub) text (current .next) last r → Lists calls before first at last r
+
+pub all-left : (calls : List Call) (before : Hub) (text : List ℕ) (at : ℕ) → at ≤ length text → Left calls before text at calls text (record { hub = before; next = at })
+all-left calls before text at l = record { inside = l; all = λ last r lists. lists }
+
+pub one-made : {c : Call} {calls cs left : List Call} {before : Hub} {first text text′ : List ℕ} {at : ℕ} {current next : Listed} → left ≡ c ∷ cs
+    → Left calls before first at left text current → Lists (c ∷ []) (current .hub) text (current .next) text′ next → Left calls before first at cs text′ next
+one-made {c} {calls} {cs} {left} {before} {first} {text} {text′} {at} {current} {next} e l made = record {
+  inside = wrote-inside (made .text);
+  all = λ last r more. l .all last r (subst (λ (ds : List Call). Lists ds (current .hub) text (current .next) last r) (sym e) (lists-more made more));
+}
+
+pub none-left : {calls left : List Call} {before : Hub} {first text : List ℕ} {at : ℕ} {current : Listed} → left ≡ []
+    → Left calls before first at left text current → Lists calls before first at text current
+none-left {calls} {left} {before} {first} {text} {at} {current} e l =
+    l .all text current (subst (λ (ds : List Call). Lists ds (current .hub) text (current .next) text current) (sym e)
+    (lists-none (current .hub) text (current .next) (l .inside)))
 
 -- ---- one call
 

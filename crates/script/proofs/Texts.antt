@@ -162,6 +162,10 @@ wrote-past l t at h = record { bytes = sym (sets-past t l at h); place = omega a
 pub wrote-length : {l t l′ : List ℕ} {at n : ℕ} → Wrote l at t l′ n → length l′ ≡ length l
 wrote-length {l} {t} {l′} {at} w = ap length (w .bytes) ∙ length-sets l at t
 
+-- the place behind the text is in the buffer
+pub wrote-inside : {l t l′ : List ℕ} {at n : ℕ} → Wrote l at t l′ n → n ≤ length l′
+wrote-inside {l} {t} {l′} {at} {n} w = omega (arith, w .place, wrote-length w)
+
 -- a text that fills the buffer is all that it holds
 pub wrote-all : {l t l′ : List ℕ} {n : ℕ} → Wrote l 0 t l′ n → length t ≡ length l → l′ ≡ t
 wrote-all {l} {t} w e =

@@ -3,7 +3,7 @@
 use mathlib.Core.Path.{sym}
 use lib.Seq.{length-take-le}
 use borrow.Author.Needs.{needs}
-use Rattle.day.proofs.Plans.{wrote-inside}
+use Rattle.script.proofs.Texts.{wrote-inside}
 use Rattle.day.proofs.main.Statement.{statement}
 use Rattle.day.proofs.main.Tie as tie
 
