@@ -1,137 +1,107 @@
 //! Lists of calls and what they gave, as the programs `day` and `mainloop` print them, worked out anew by the plain machine.
 use crate::machine::{Answer, Call, Machine};
+use crate::vectors::unhex;
 use std::collections::BTreeMap;
 
-/// The words of a line, with each bracketed list of bytes taken apart from the others.
-struct Words<'a>(&'a str);
-
-impl<'a> Words<'a> {
-    fn word(&mut self) -> &'a str {
-        let (word, rest) = self.0.split_once(' ').unwrap_or((self.0, ""));
-        self.0 = rest;
-        word
-    }
-
-    fn number<T: std::str::FromStr>(&mut self) -> T {
-        let word = self.word();
-        word.parse()
-            .unwrap_or_else(|_| panic!("no number: {word:?}"))
-    }
-
-    fn bytes(&mut self) -> Vec<u8> {
-        let (list, rest) = self.0.strip_prefix('[').unwrap().split_once(']').unwrap();
-        self.0 = rest.trim_start_matches(' ');
-        list.split_whitespace()
-            .map(|b| b.parse().unwrap())
-            .collect()
-    }
-
-    /// Bytes, or the word that stands for a message given before.
-    fn bytes_or(&mut self, message: &[u8]) -> Vec<u8> {
-        if self.0.starts_with('[') {
-            return self.bytes();
-        }
-        self.expect("message");
-        message.to_vec()
-    }
-
-    fn expect(&mut self, word: &str) {
-        assert_eq!(self.word(), word);
-    }
-
-    /// A number that stands after its name.
-    fn field<T: std::str::FromStr>(&mut self, name: &str) -> T {
-        self.expect(name);
-        self.number()
-    }
-}
-
-/// A line of a list: a new hub, the bytes that feeds go on to call `message`, the same feed many times, or a call and its answer.
+/// A line of a list: a new hub, a feed that is made so many times and always accepted, or a call and its answer.
 pub enum Line {
     Empty,
-    Message(Vec<u8>),
-    Often(u32, usize, Vec<u8>),
+    Often(Call, usize),
     Call(Call, Answer),
 }
 
-pub fn parse(line: &str, message: &[u8]) -> Line {
-    let mut words = Words(line);
-    match words.word() {
-        "empty" => Line::Empty,
-        "message" => Line::Message(words.bytes()),
-        "often" => Line::Often(words.number(), words.number(), words.bytes()),
-        name => {
-            let call = parse_call(name, &mut words, message);
-            words.expect("=");
-            let answer = parse_answer(&call, &mut words);
-            assert_eq!(words.0, "");
+pub fn parse(line: &str) -> Line {
+    let fields: Vec<&str> = line.split(' ').collect();
+    match fields[..] {
+        ["empty"] => Line::Empty,
+        ["often", ticket, bytes, times] => {
+            Line::Often(parse_call(&["feed", ticket, bytes]), number(times))
+        }
+        [ref call @ .., "=", "refusal", refusal, "ticket", ticket, "runs", runs, "passed", passed @ ("0" | "1"), "sum", sum, buffer] =>
+        {
+            let call = parse_call(call);
+            let answer = Answer {
+                refusal: number(refusal),
+                ticket: number(ticket),
+                runs: number(runs),
+                passed: passed == "1",
+                sum: number(sum),
+                buffer: parse_buffer(&call, buffer),
+            };
             Line::Call(call, answer)
         }
+        _ => panic!("no line of a list: {line:?}"),
     }
 }
 
-/// The call of a name, by the words after it.
-fn parse_call(name: &str, words: &mut Words, message: &[u8]) -> Call {
-    match name {
-        "open" => Call::Open {
-            mode: words.number(),
-            key: words.bytes(),
+fn parse_call(fields: &[&str]) -> Call {
+    match *fields {
+        ["open", mode, key] => Call::Open {
+            mode: number(mode),
+            key: bytes(key),
         },
-        "feed" => Call::Feed {
-            ticket: words.number(),
-            bytes: words.bytes_or(message),
+        ["feed", ticket, fed] => Call::Feed {
+            ticket: number(ticket),
+            bytes: bytes(fed),
         },
-        "draw" => Call::Draw {
-            ticket: words.number(),
-            buffer: words.bytes(),
-            place: words.number(),
-            count: words.number(),
+        ["draw", ticket, buffer, place, count] => Call::Draw {
+            ticket: number(ticket),
+            buffer: bytes(buffer),
+            place: number(place),
+            count: number(count),
         },
-        "check" => Call::Check {
-            ticket: words.number(),
-            tag: words.bytes(),
+        ["check", ticket, tag] => Call::Check {
+            ticket: number(ticket),
+            tag: bytes(tag),
         },
-        "close" => Call::Close {
-            ticket: words.number(),
+        ["close", ticket, "-"] => Call::Close {
+            ticket: number(ticket),
         },
-        "sum" => Call::Sum,
-        other => panic!("no call: {other}"),
+        ["sum", "0", "-"] => Call::Sum,
+        _ => panic!("no call: {fields:?}"),
     }
 }
 
-/// All fields of an answer; after a draw the buffer, too.
-fn parse_answer(call: &Call, words: &mut Words) -> Answer {
-    Answer {
-        refusal: words.field("refusal"),
-        ticket: words.field("ticket"),
-        runs: words.field("runs"),
-        passed: match words.field("passed") {
-            0u8 => false,
-            1 => true,
-            other => panic!("no verdict: {other}"),
-        },
-        sum: words.field("sum"),
-        buffer: matches!(call, Call::Draw { .. }).then(|| words.bytes()),
-    }
+/// The buffer as a call leaves it: of a draw as long as it was lent, of any other call none.
+fn parse_buffer(call: &Call, field: &str) -> Option<Vec<u8>> {
+    let Call::Draw { buffer, .. } = call else {
+        assert_eq!(field, "-");
+        return None;
+    };
+    let after = bytes(field);
+    assert_eq!(after.len(), buffer.len());
+    Some(after)
+}
+
+/// A number. It is written again, so that no sign and no leading zero is let through.
+fn number<T: std::str::FromStr + ToString>(field: &str) -> T {
+    let number = field.parse().ok();
+    let number = number.filter(|n: &T| n.to_string() == field);
+    number.unwrap_or_else(|| panic!("no number: {field:?}"))
+}
+
+/// Bytes. They are written again, so that upper case, an odd digit and an empty field are not let through.
+fn bytes(field: &str) -> Vec<u8> {
+    let bytes = unhex(field);
+    assert_eq!(crate::script::field(&bytes), field);
+    bytes
 }
 
 /// Works all lines out anew: the calls that were not answered as the plain machine answers them, by line.
 pub fn wrong(text: &str) -> Vec<(usize, Answer)> {
     let mut machine = Machine::default();
-    let mut message = Vec::new();
     let mut found = Vec::new();
-    for (i, line) in text.lines().enumerate() {
-        match parse(line, &message) {
+    let lines = text.strip_suffix('\n').expect("a last newline");
+    for (line, i) in lines.split('\n').zip(1..) {
+        match parse(line) {
             Line::Empty => machine = Machine::default(),
-            Line::Message(bytes) => message = bytes,
-            Line::Often(ticket, times, bytes) => {
-                let feed = Call::Feed { ticket, bytes };
-                (0..times).for_each(|_| assert_eq!(machine.call(&feed).refusal, 0));
+            Line::Often(feed, times) => {
+                (0..times).for_each(|_| assert_eq!(machine.call(&feed).refusal, 0))
             }
             Line::Call(call, printed) => {
                 let right = machine.call(&call);
                 if right != printed {
-                    found.push((i + 1, right));
+                    found.push((i, right));
                 }
             }
         }
@@ -139,39 +109,68 @@ pub fn wrong(text: &str) -> Vec<(usize, Answer)> {
     found
 }
 
-/// A line with one number of its answer changed: a field's, or a byte of the buffer that a draw gave back.
-fn changed(line: &str, field: &str) -> Option<String> {
+/// A line with another last digit in one field of its answer: a number, or the buffer that a draw gave back.
+fn changed(line: &str, name: &str) -> Option<String> {
     let (call, answer) = line.split_once(" = ")?;
-    let opening = match field {
-        "buffer" => "[".to_string(),
-        _ => format!("{field} "),
-    };
-    let (before, rest) = answer.split_once(&opening)?;
-    let end = rest.find([' ', ']']).unwrap_or(rest.len());
-    let number: u64 = rest[..end].parse().ok()?;
-    let other = match field {
-        "passed" => 1 - number,
-        "buffer" => number ^ 1,
-        _ => number + 1,
-    };
-    Some(format!("{call} = {before}{opening}{other}{}", &rest[end..]))
+    let mut fields: Vec<String> = answer.split(' ').map(String::from).collect();
+    // A number stands after its name; the buffer has none, and is last.
+    let named = fields.iter().position(|field| field == name);
+    let place = named.map_or(fields.len() - 1, |i| i + 1);
+    let digit = fields[place].pop().filter(|digit| *digit != '-')?;
+    fields[place].push(if digit == '0' { '1' } else { '0' });
+    Some(format!("{call} = {}", fields.join(" ")))
 }
 
-/// The comparison itself: each line with one number of its answer changed is found to be wrong there. Gives how many changes of each number were tried.
+/// The comparison itself: each line with one field of its answer changed is found to be wrong there. Gives how many changes of each field were tried.
 pub fn changes_found(text: &str) -> BTreeMap<&'static str, usize> {
-    let lines: Vec<&str> = text.lines().collect();
     let mut tried = BTreeMap::new();
-    for i in 0..lines.len() {
-        for field in ["refusal", "ticket", "runs", "passed", "sum", "buffer"] {
-            let Some(line) = changed(lines[i], field) else {
-                continue;
-            };
-            let mut all: Vec<&str> = lines[..=i].to_vec();
-            all[i] = &line;
-            let found = wrong(&all.join("\n"));
-            assert_eq!(found.iter().map(|f| f.0).collect::<Vec<_>>(), [i + 1]);
-            *tried.entry(field).or_insert(0) += 1;
+    let mut before = String::new();
+    for (line, i) in text.lines().zip(1..) {
+        for name in ["refusal", "ticket", "runs", "passed", "sum", "buffer"] {
+            if let Some(other) = changed(line, name) {
+                let found = wrong(&format!("{before}{other}\n"));
+                assert_eq!(found.iter().map(|f| f.0).collect::<Vec<_>>(), [i]);
+                *tried.entry(name).or_insert(0) += 1;
+            }
         }
+        before += &format!("{line}\n");
     }
     tried
+}
+
+#[cfg(test)]
+mod tests {
+    use super::*;
+
+    /// Each line is read, and with a part of it in another form it is not.
+    #[test]
+    fn no_other_form_is_read() {
+        const DRAW: &str = "draw 1 ff00 0 1 = refusal 0 ticket 0 runs 2 passed 0 sum 0 7300";
+        const NONE: &str = "draw 1 - 0 0 = refusal 0 ticket 0 runs 2 passed 0 sum 0 -";
+        const FEED: &str = "feed 1 0a = refusal 0 ticket 0 runs 1 passed 0 sum 0 -";
+        const CLOSE: &str = "close 1 - = refusal 0 ticket 0 runs 1 passed 0 sum 0 -";
+        const SUM: &str = "sum 0 - = refusal 0 ticket 0 runs 0 passed 0 sum 1 -";
+        for (line, part, forms) in [
+            ("empty", "empty", "/Empty/ empty/empty /empty\r/message 00"),
+            ("often 1 0a 2", " 0a 2", " 0a/ 0a 02/ 0a 2 -/ 0a  2/ 2 0a"),
+            (DRAW, "ff00", "FF00/ff0/ff000/+f00/-f00/[255 0]/ff 00//-"),
+            (DRAW, " 0 1", " 0/ 0 01/ +0 1/ 0 -1/ 0  1/ 0 1 1/ 0 x"),
+            (DRAW, "= refusal", "refusal/ = refusal/== refusal/= sum"),
+            (DRAW, "ticket 0 runs", "sum 0 runs/0 runs/ticket 0 x"),
+            (DRAW, "passed 0 sum", "passed 2 sum/x 0 sum/passed 0 x"),
+            (DRAW, "7300", "-/73/730/730000/73AA/7300 //7300 7300"),
+            (NONE, "sum 0 -", "sum 0 00/sum 0 /sum 0/sum 0 - "),
+            (FEED, "0a", "message/0A/"),
+            (FEED, "sum 0 -", "sum 0 0a/sum 0 /sum 0"),
+            (CLOSE, "1 -", "1/1 00/-/1 - -"),
+            (SUM, "sum 0 -", "sum 1 -/sum 0 00/sum -/sum 0/sum"),
+        ] {
+            parse(line);
+            for form in forms.split('/') {
+                let other = line.replacen(part, form, 1);
+                let read = std::panic::catch_unwind(|| parse(&other));
+                assert!(read.is_err(), "{other:?}");
+            }
+        }
+    }
 }

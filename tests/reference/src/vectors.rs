@@ -117,7 +117,7 @@ pub fn counting(length: usize) -> Vec<u8> {
 }
 
 /// The bytes of lower-case hex.
-fn unhex(digits: &str) -> Vec<u8> {
+pub(crate) fn unhex(digits: &str) -> Vec<u8> {
     (0..digits.len() / 2)
         .map(|i| u8::from_str_radix(&digits[2 * i..2 * i + 2], 16).expect("two digits"))
         .collect()

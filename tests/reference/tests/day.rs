@@ -22,7 +22,7 @@ fn every_kind_of_call_and_refusal_occurs() {
     let mut accepted = BTreeSet::new();
     let mut verdicts = BTreeSet::new();
     for line in printed().lines() {
-        if let Line::Call(call, answer) = parse(line, &[]) {
+        if let Line::Call(call, answer) = parse(line) {
             let name = line.split(' ').next().unwrap().to_string();
             if answer.refusal == 0 {
                 accepted.insert(name);
@@ -49,7 +49,7 @@ fn every_kind_of_call_and_refusal_occurs() {
 #[test]
 fn a_changed_answer_is_found() {
     let text = printed();
-    let first: Vec<&str> = text.lines().take(200).collect();
-    let tried = changes_found(&first.join("\n"));
+    let first: String = text.split_inclusive('\n').take(200).collect();
+    let tried = changes_found(&first);
     assert!(tried["refusal"] > 150 && tried["passed"] > 150 && tried["buffer"] > 20);
 }
