@@ -1,20 +1,19 @@
 -- The plan's calls, turns and steps, one after the other.
 -- Assumes nothing.
 use mathlib.Core.Path.{_≡_, refl, sym, ap, _∙_, subst}
-use mathlib.Core.List.{List, [], _∷_}
-use Prim.Native.Nat.{ℕ, suc, _+_, _-_, _*_, _/_, _%_, _≤_, _<_, min}
+use mathlib.Core.List.{List, [], _∷_, _++_}
+use Prim.Native.Nat.{ℕ, _+_, _-_, _*_, _/_, _%_, _≤_, _<_, min}
 use native.Mathlib.Numerals.{add-one}
 use native.Mathlib.Omega.{arith}
 use native.Mathlib.Decide.{decLe}
 use borrow.Author.Tests.{lt-ltb, le-ltb}
 use lib.ListN.{length, getD, take, drop, drop-of-length-le}
 use lib.Seq.{drop-cons, take-all}
-use Rattle.calls.specs.Call.{Call, Open, Feed, Draw, Check, Close, Sum, final, events}
+use Rattle.calls.specs.Call.{Call, Open, Feed, Draw, Check, Close, Sum}
 use Rattle.calls.proofs.Repeats.{one-less, none-left}
 use Rattle.hub.specs.declared.Hub.{Hub}
 use Rattle.hub.specs.Hub.{emptyHub}
 use Rattle.script.specs.Text.{Wrote}
-use Rattle.script.proofs.Texts.{wrote-none, wrote-more, wrote-inside}
 use Rattle.listing.specs.declared.Listed.{Listed}
 use Rattle.listing.specs.Listing.{Lists}
 use Rattle.day.specs.declared.Planned.{Planned}
@@ -95,32 +94,16 @@ pub no-turn : (sample : List ℕ) (end i : ℕ) → end ≤ i → turnsFrom i (e
 unfolding turnsFrom
 no-turn sample end i l = rw (none-left end i l)
 
--- ---- a loop that makes steps: those that are left, whatever writes them, complete the text of all
+-- ---- steps that are left
 
-pub record StepsLeft (plan : List Step) (sample : List ℕ) (before : Hub) (text₀ : List ℕ) (at i : ℕ) (text : List ℕ) (current : Listed) : Type 0 where
-  pub inside : current .next ≤ length text
-  pub all : (last : List ℕ) (n : ℕ) → Wrote text (current .next) (planText (drop i plan) sample (current .hub)) last n
-      → Wrote text₀ at (planText plan sample before) last n
-
-pub steps-begin : (plan : List Step) (sample : List ℕ) (before : Hub) (text : List ℕ) (at : ℕ) → at ≤ length text
-    → StepsLeft plan sample before text at 0 text (record { hub = before; next = at })
-steps-begin plan sample before text at l = record { inside = l; all = λ last n wrote. wrote }
-
-pub steps-next : {plan : List Step} {sample text₀ text text′ : List ℕ} {before : Hub} {at i : ℕ} {current next : Listed} → i < length plan
-    → StepsLeft plan sample before text₀ at i text current → Steps (getD plan i Begin) sample (current .hub) text (current .next) text′ next
-    → StepsLeft plan sample before text₀ at (i + 1) text′ next
+pub one-step : (plan : List Step) (sample : List ℕ) (h after : Hub) (i : ℕ) → i < length plan → after ≡ stepAfter (getD plan i Begin) sample h
+    → planText (drop i plan) sample h ≡ stepText (getD plan i Begin) sample h ++ planText (drop (i + 1) plan) sample after
 unfolding planText
-steps-next {plan} {sample} {text₀} {text} {text′} {before} {at} {i} {current} {next} l left made = record {
-  inside = wrote-inside (made .text);
-  all = λ last n more. left .all last n (rw (drop-cons plan i Begin l) (wrote-more (made .text)
-      (subst (λ (h : Hub). Wrote text′ (next .next) (planText (drop (suc i) plan) sample h) last n) (made .hub) (rw add-one at more))));
-}
+one-step plan sample h after i l e = rw (drop-cons plan i Begin l, e, add-one)
 
-pub steps-end : {plan : List Step} {sample text₀ text : List ℕ} {before : Hub} {at i : ℕ} {current : Listed} → length plan ≤ i
-    → StepsLeft plan sample before text₀ at i text current → Wrote text₀ at (planText plan sample before) text (current .next)
+pub no-step : (plan : List Step) (sample : List ℕ) (h : Hub) (i : ℕ) → length plan ≤ i → planText (drop i plan) sample h ≡ []
 unfolding planText
-steps-end {plan} {sample} {text₀} {text} {before} {at} {i} {current} l left =
-    left .all text (current .next) (rw (drop-of-length-le plan l) (wrote-none text (current .next) (current .next) (omega (arith, left .inside))))
+no-step plan sample h i l = rw (drop-of-length-le plan l)
 
 -- ---- which step it is
 

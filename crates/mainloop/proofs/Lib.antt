@@ -1,2 +1,3 @@
 -- Crate `mainloop`: its laws.
 pub mod RoundList
+pub mod Kept

@@ -4,14 +4,15 @@ use mathlib.Core.Bool.{cond}
 use mathlib.Core.List.{List, [], _∷_, _++_}
 use Prim.Native.Nat.{ℕ, zero, suc, _+_, _*_, _/_, _%_}
 use lib.Dec.{ltb}
-use lib.ListN.{replicate}
+use lib.ListN.{getD, replicate}
 use lib.Seq.{sets}
 use Rattle.calls.specs.declared.Answer.{Answer}
+use Rattle.calls.specs.Answer.{refused}
 use Rattle.calls.specs.Call.{Call, Open, Feed, Draw, Close, Sum, Step, events}
 use Rattle.hub.specs.declared.Hub.{Hub}
 use Rattle.hub.specs.Hub.{emptyHub, feedHub, closeHub, onHub}
 use Rattle.script.specs.Text.{text}
-use Rattle.listing.specs.Listing.{lines}
+use Rattle.listing.specs.Listing.{line, lines}
 use Rattle.mainloop.specs.declared.Answers.{Answers}
 use Rattle.mainloop.specs.declared.Served.{Served}
 
@@ -48,6 +49,21 @@ servedFrom i (suc n) bytes s = servedFrom (suc i) n bytes (roundOn i bytes s)
 
 -- ---- the list
 
+-- what is listed of a round by its two answers
+unfoldable pub roundText : ℕ → List ℕ → Answer → Answer → List ℕ
+roundText i bytes fed closed =
+    line (record { call = Feed (feedTicket i) bytes; response = record { answer = fed; buffer = [] } }) ++
+    line (record { call = Close (closeTicket i); response = record { answer = closed; buffer = [] } })
+
+-- what is read past the last answer, which no code does: every field 0
+abbrev pub noAnswer : Answer
+noAnswer = refused 0
+
+-- and of n rounds, from number i on, by those that are kept
+unfoldable pub roundsText : ℕ → ℕ → List ℕ → Answers → List ℕ
+roundsText i zero bytes a = []
+roundsText i (suc n) bytes a = roundText i bytes (getD (a .kept) (2 * i) noAnswer) (getD (a .kept) (2 * i + 1) noAnswer) ++ roundsText (suc i) n bytes a
+
 -- a buffer as it is lent to draws
 abbrev pub lentOut : List ℕ
 lentOut = replicate 16 170
@@ -70,3 +86,7 @@ allCalls key few message = opening key ++ roundsFrom 0 150 few ++ roundsFrom 0 1
 
 unfoldable pub listText : List ℕ → List ℕ → List ℕ → List ℕ
 listText key few message = text "empty\n" ++ lines (events onHub emptyHub (allCalls key few message))
+
+-- one list by value and one in place
+unfoldable pub bothTexts : List ℕ → List ℕ → List ℕ → List ℕ
+bothTexts key few message = text "by value\n" ++ listText key few message ++ text "in place\n" ++ listText key few message

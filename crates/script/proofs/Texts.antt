@@ -1,6 +1,6 @@
 -- Laws of cutting texts, and of writing them into a buffer.
 -- Assumes nothing.
-use mathlib.Core.Path.{_≡_, refl, sym, ap, _∙_}
+use mathlib.Core.Path.{_≡_, refl, sym, ap, _∙_, subst}
 use mathlib.Core.Bool.{Bool, true, false, cond, _&&_, false≢true}
 use mathlib.Core.List.{List, [], _∷_, _++_, append-nil}
 use Prim.Native.Nat.{ℕ, suc, _+_, _-_, _≤_, _<_, min}
@@ -188,3 +188,22 @@ wrote-fitting l u last at start n p q e = record {
   bytes = e ∙ sets-fitting l u start n q ∙ ap (λ (k : ℕ). sets l k u) p ∙ sets-min u l at;
   place = omega arith;
 }
+
+-- ---- a loop that writes: the text that is left, whatever writes it, completes the whole
+pub record TextLeft (whole first : List ℕ) (at : ℕ) (left text : List ℕ) (next : ℕ) : Type 0 where
+  pub inside : next ≤ length text
+  pub all : (last : List ℕ) (n : ℕ) → Wrote text next left last n → Wrote first at whole last n
+
+pub text-begun : (whole text : List ℕ) (at : ℕ) → at ≤ length text → TextLeft whole text at whole text at
+text-begun whole text at h = record { inside = h; all = λ last n wrote. wrote }
+
+pub text-next : {whole first left t rest text text′ : List ℕ} {at next next′ : ℕ} → left ≡ t ++ rest → TextLeft whole first at left text next → Wrote text next t text′ next′
+    → TextLeft whole first at rest text′ next′
+text-next {whole} {first} {left} {t} {rest} {text} {text′} {at} {next} {next′} e l wrote = record {
+  inside = wrote-inside wrote;
+  all = λ last n more. l .all last n (subst (λ (u : List ℕ). Wrote text next u last n) (sym e) (wrote-more wrote more));
+}
+
+pub text-done : {whole first left text : List ℕ} {at next : ℕ} → left ≡ [] → TextLeft whole first at left text next → Wrote first at whole text next
+text-done {whole} {first} {left} {text} {at} {next} e l =
+    l .all text next (subst (λ (u : List ℕ). Wrote text next u text next) (sym e) (wrote-none text next next (omega (arith, l .inside))))

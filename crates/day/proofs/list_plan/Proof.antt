@@ -4,16 +4,17 @@ use mathlib.Core.Path.{_≡_, refl, _∙_}
 use Prim.Native.Nat.{_-_, zero-le}
 use native.Mathlib.Omega.{arith}
 use borrow.Author.Needs.{needs}
-use lib.ListN.{length}
+use lib.ListN.{length, drop}
 use denote.Ref.{now}
 use Rattle.hub.specs.Hub.{emptyHub}
-use Rattle.script.proofs.Texts.{wrote-length}
-use Rattle.day.proofs.Plans.{StepsLeft, steps-begin, steps-next, steps-end}
+use Rattle.script.proofs.Texts.{wrote-length, TextLeft, text-begun, text-next, text-done}
+use Rattle.day.specs.Day.{planText}
+use Rattle.day.proofs.Plans.{one-step, no-step}
 use Rattle.day.proofs.list_plan.Statement.{statement}
 use Rattle.day.proofs.list_plan.Tie as tie
 
 abbrev Inv-loop : tie.InvT-loop
-Inv-loop sample text₀ plan current₀ i₀ text current i = (length text ≡ length text₀) × StepsLeft plan sample emptyHub text₀ 0 i text current
+Inv-loop sample text₀ plan current₀ i₀ text current i = (length text ≡ length text₀) × TextLeft (planText plan sample emptyHub) text₀ 0 (planText (drop i plan) sample (current .hub)) text (current .next)
 
 abbrev μ-loop : tie.MeasureT-loop
 μ-loop sample text₀ plan current₀ i₀ text current i = 78 - i
@@ -23,7 +24,7 @@ empty-requires c κs = search needs
 
 loop-holds : tie.Need-loop-holds Inv-loop μ-loop
 loop-holds c = let a = c .before .before .before .args in
-    (refl, rw (c .empty .ensures) (steps-begin _ (now (a .sample)) emptyHub (now (a .text)) 0 zero-le))
+    (refl, rw (c .empty .ensures) (text-begun _ (now (a .text)) 0 zero-le))
 
 mul-make-step : tie.Need-mul-make-step Inv-loop μ-loop
 mul-make-step c = search needs
@@ -43,14 +44,15 @@ loop-less c = omega arith
 loop-again : tie.Need-loop-again Inv-loop μ-loop
 loop-again c = (
   wrote-length (c .before .before .make-step .ensures .text) ∙ c .before .before .before .before .before .before .before .loop .inv .0,
-  steps-next (omega arith) (c .before .before .before .before .before .before .before .loop .inv .1) (c .before .before .make-step .ensures),
+  text-next (one-step _ _ (c .before .before .before .before .before .before .before .loop .current .hub) _ (c .before .before .before .before .before .before .before .loop .i) (omega arith) (c .before .before .make-step .ensures .hub))
+      (c .before .before .before .before .before .before .before .loop .inv .1) (c .before .before .make-step .ensures .text),
 )
 
 same-length : tie.Need-same-length Inv-loop μ-loop
 same-length c = c .before .loop .inv .0
 
 returns : tie.Need-returns Inv-loop μ-loop
-returns c = steps-end (omega arith) (c .before .loop .inv .1)
+returns c = text-done (no-step _ _ (c .before .loop .current .hub) (c .before .loop .i) (omega arith)) (c .before .loop .inv .1)
 
 pub list-plan-spec : {M : Type 1} → statement M
 list-plan-spec =

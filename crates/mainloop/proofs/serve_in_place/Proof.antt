@@ -275,8 +275,22 @@ module _ {M : Type 1} (𝓤 : URA M) (H : Heap 𝓤) (A : Atoms 𝓤) (W : Given
     abbrev next : (z : State) → T (ltb (z .0) m) → IsHub (afterRound (z .0) (s .now) (z .1 .0)) → IsKept (keptRound (z .0) (s .now) (z .1 .0) (z .1 .1 .0)) → State
     next z less is is′ = (
       z .0 + 1,
-      (afterRound (z .0) (s .now) (z .1 .0), (keptRound (z .0) (s .now) (z .1 .0) (z .1 .1 .0), (add-one-le (ltb→lt (z .0) m less), (is, (is′,
-      rounds-next (s .now) m (z .0) (z .1 .0) (z .1 .1 .0) (ltb→lt (z .0) m less) ∙ left-of z))))),
+      (
+        afterRound (z .0) (s .now) (z .1 .0),
+        (
+          keptRound (z .0) (s .now) (z .1 .0) (z .1 .1 .0),
+          (
+            add-one-le (ltb→lt (z .0) m less),
+            (
+              is,
+              (
+                is′,
+                rounds-next (s .now) m (z .0) (z .1 .0) (z .1 .1 .0) (ltb→lt (z .0) m less) ∙ left-of z,
+              ),
+            ),
+          ),
+        ),
+      ),
     )
 
     turns : (z : State) → Sq W (At z) (runs C Λ En turn (anyQ (Turned z)))
