@@ -33,7 +33,7 @@ uint64_t testbench_permute_chain(uint64_t x0, uint64_t times);
  * Any number of bytes may be fed and drawn: the limits of a ticket are the hub's.
  * A `mode` that is not 1 to 4 is answered 0, and nothing is written. */
 uint64_t testbench_sponge(const uint8_t *key, size_t key_length, const uint8_t *message, size_t message_length, uint8_t *out, size_t out_length,
-                      uint32_t mode, size_t cut, size_t first);
+                          uint32_t mode, size_t cut, size_t first);
 
 /* Gives 1 where the tag equals as many first bytes of the message's MAC of 16 bytes, so that a tag of no bytes passes, and 0 where it does not or is longer.
  * The key is taken as by testbench_sponge. Every byte of the tag is looked at, whatever the others are. */
@@ -55,7 +55,7 @@ uint64_t testbench_feeds_in_place(uint32_t ticket, const uint8_t *bytes, size_t 
  * 1,048,576 bytes are drawn, of mode 2 at most 16, of mode 3 at most 32. A feed that is refused is left out. Where the open or the draw is refused, the answer is 0,
  * and nothing is written. */
 uint64_t testbench_parts_in_place(const uint8_t *key, size_t key_length, const uint8_t *message, size_t message_length, uint8_t *out, size_t out_length,
-                              uint32_t mode, size_t first, size_t second);
+                                  uint32_t mode, size_t first, size_t second);
 
 #ifdef __cplusplus
 }

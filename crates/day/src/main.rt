@@ -379,6 +379,7 @@ fn list_plan(plan: [Step; 78], sample: &[u8], text: &mut [u8]) -> usize
     current.next
 }
 
+// The buffer is longer than the text, which has 56,230 bytes.
 fn main() {
     let sample = SAMPLE;
     let mut text = [0u8; 65536];

@@ -272,6 +272,7 @@ const MESSAGE: [u8; 20] = [
     127,
 ];
 
+// The buffer is longer than the text, which has 90,042 bytes.
 fn main() {
     let key = KEY;
     let few = FEW;

@@ -1,9 +1,8 @@
 -- `vectors::main` is safe: no more is written than was put into the buffer.
 -- Assumes nothing.
 use mathlib.Core.Path.{sym}
-use native.Mathlib.Omega.{arith}
 use lib.Seq.{length-take-le}
-use Rattle.script.proofs.Texts.{wrote-length}
+use Rattle.script.proofs.Texts.{wrote-inside}
 use borrow.Author.Needs.{needs}
 use Rattle.vectors.proofs.main.Statement.{statement}
 use Rattle.vectors.proofs.main.Tie as tie
@@ -18,7 +17,7 @@ array-share-prefix-text : tie.Need-array-share-prefix-text
 array-share-prefix-text c = search needs
 
 slice-aggregate-write-all : tie.Need-slice-aggregate-write-all
-slice-aggregate-write-all c = sym (length-take-le _ (c .before .before .put-vectors .last .0) (omega (arith, c .before .before .put-vectors .ensures .place, wrote-length (c .before .before .put-vectors .ensures))))
+slice-aggregate-write-all c = sym (length-take-le _ _ (wrote-inside (c .before .before .put-vectors .ensures)))
 
 write-all-requires : tie.Need-write-all-requires
 write-all-requires c κs = search needs
