@@ -1,5 +1,6 @@
 //! What the program `mainloop` printed: the same calls on a hub by value and on one that stays in its memory. `rt ci` holds the program to the file that is read here.
 use reference::listing::{changes_found, parse, wrong, Line};
+use reference::machine::Call;
 use std::collections::BTreeMap;
 use std::path::Path;
 
@@ -26,6 +27,25 @@ fn every_answer_and_every_byte_is_the_plain_machines() {
     let (_, in_place) = printed();
     assert_eq!(in_place.lines().count(), 652);
     assert_eq!(wrong(&in_place), []);
+}
+
+/// What was fed shows in an answer only where the ticket is drawn from later.
+#[test]
+fn each_round_feeds_its_message() {
+    let (_, in_place) = printed();
+    let fed: Vec<Vec<u8>> = in_place
+        .lines()
+        .filter_map(|line| match parse(line) {
+            Line::Call(Call::Feed { bytes, .. }, _) => Some(bytes),
+            _ => None,
+        })
+        .collect();
+    let message = [
+        255, 0, 1, 128, 127, 64, 32, 16, 8, 4, 2, 1, 90, 165, 3, 7, 15, 31, 63, 127,
+    ];
+    assert_eq!(fed.len(), 300);
+    assert!(fed[..150].iter().all(|bytes| bytes == &[129, 66, 36]));
+    assert!(fed[150..].iter().all(|bytes| bytes == &message));
 }
 
 #[test]
