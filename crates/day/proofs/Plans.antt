@@ -1,6 +1,6 @@
 -- The plan's calls, turns and steps, one after the other.
 -- Assumes nothing.
-use mathlib.Core.Path.{_≡_, refl, sym, ap, _∙_, subst}
+use mathlib.Core.Path.{_≡_, sym, ap, _∙_, subst}
 use mathlib.Core.List.{List, [], _∷_, _++_}
 use Prim.Native.Nat.{ℕ, _+_, _-_, _*_, _/_, _%_, _≤_, _<_, min}
 use native.Mathlib.Numerals.{add-one}
@@ -13,23 +13,23 @@ use Rattle.calls.specs.Call.{Call, Open, Feed, Draw, Check, Close, Sum}
 use Rattle.calls.proofs.Repeats.{one-less, none-left}
 use Rattle.hub.specs.declared.Hub.{Hub}
 use Rattle.hub.specs.Hub.{emptyHub}
-use Rattle.script.specs.Text.{Wrote}
+use Rattle.script.specs.Text.{part, Wrote}
 use Rattle.listing.specs.declared.Listed.{Listed}
 use Rattle.listing.specs.Listing.{Lists}
 use Rattle.day.specs.declared.Planned.{Planned}
 use Rattle.day.specs.declared.Planned.the-variants as planned
 use Rattle.day.specs.declared.Step.{Step}
-use Rattle.day.specs.declared.Step.the-variants.{Begin, Make, Turns, FeedOften}
-use Rattle.day.specs.Day.{cut, lent, callOf, turnAt, turnsFrom, beginText, stepAfter, stepText, Steps, planText}
+use Rattle.day.specs.declared.Step.the-variants.{Begin, Make, Turns}
+use Rattle.day.specs.Day.{lent, callOf, turnAt, turnsFrom, beginText, stepAfter, stepText, StepListed, planText}
 
 -- ---- which call is planned
 
 module _ (sample : List ℕ) {p : Planned} where
-  pub is-open : {mode start n : ℕ} {key : List ℕ} → p ≡ planned.Open mode start n → key ≡ cut sample start n → callOf p sample ≡ Open mode key
+  pub is-open : {mode start n : ℕ} {key : List ℕ} → p ≡ planned.Open mode start n → key ≡ part start n sample → callOf p sample ≡ Open mode key
   unfolding callOf
   is-open {mode} e k = ap (λ (q : Planned). callOf q sample) e ∙ ap (Open mode) (sym k)
 
-  pub is-feed : {ticket start n : ℕ} {bytes : List ℕ} → p ≡ planned.Feed ticket start n → bytes ≡ cut sample start n → callOf p sample ≡ Feed ticket bytes
+  pub is-feed : {ticket start n : ℕ} {bytes : List ℕ} → p ≡ planned.Feed ticket start n → bytes ≡ part start n sample → callOf p sample ≡ Feed ticket bytes
   unfolding callOf
   is-feed {ticket} e k = ap (λ (q : Planned). callOf q sample) e ∙ ap (Feed ticket) (sym k)
 
@@ -38,7 +38,7 @@ module _ (sample : List ℕ) {p : Planned} where
   unfolding callOf
   is-draw {ticket} {n} {place} {count} e k = ap (λ (q : Planned). callOf q sample) e ∙ ap (λ (b : List ℕ). Draw ticket b place count) (sym k)
 
-  pub is-check : {ticket start n : ℕ} {tag : List ℕ} → p ≡ planned.Check ticket start n → tag ≡ cut sample start n → callOf p sample ≡ Check ticket tag
+  pub is-check : {ticket start n : ℕ} {tag : List ℕ} → p ≡ planned.Check ticket start n → tag ≡ part start n sample → callOf p sample ≡ Check ticket tag
   unfolding callOf
   is-check {ticket} e k = ap (λ (q : Planned). callOf q sample) e ∙ ap (Check ticket) (sym k)
 
@@ -108,17 +108,17 @@ no-step plan sample h i l = rw (drop-of-length-le plan l)
 -- ---- which step it is
 
 module _ {s : Step} {sample first last : List ℕ} {h : Hub} {at : ℕ} {r : Listed} where
-  pub as-step : {t : Step} → s ≡ t → Steps t sample h first at last r → Steps s sample h first at last r
-  as-step e made = subst (λ (x : Step). Steps x sample h first at last r) (sym e) made
+  pub as-step : {t : Step} → s ≡ t → StepListed t sample h first at last r → StepListed s sample h first at last r
+  as-step e made = subst (λ (x : Step). StepListed x sample h first at last r) (sym e) made
 
-  pub begins : s ≡ Begin → r .hub ≡ emptyHub → Wrote first at beginText last (r .next) → Steps s sample h first at last r
+  pub begins : s ≡ Begin → r .hub ≡ emptyHub → Wrote first at beginText last (r .next) → StepListed s sample h first at last r
   unfolding stepAfter stepText
   begins e hub text = as-step e (record { hub = hub; text = text })
 
-  pub makes : {p : Planned} → s ≡ Make p → Lists (callOf p sample ∷ []) h first at last r → Steps s sample h first at last r
+  pub makes : {p : Planned} → s ≡ Make p → Lists (callOf p sample ∷ []) h first at last r → StepListed s sample h first at last r
   unfolding stepAfter stepText
   makes e lists = as-step e (record { hub = lists .hub; text = lists .text })
 
-  pub turns : {i end : ℕ} → s ≡ Turns i end → Lists (turnsFrom i (end - i) sample) h first at last r → Steps s sample h first at last r
+  pub turns : {i end : ℕ} → s ≡ Turns i end → Lists (turnsFrom i (end - i) sample) h first at last r → StepListed s sample h first at last r
   unfolding stepAfter stepText
   turns e lists = as-step e (record { hub = lists .hub; text = lists .text })

@@ -5,23 +5,19 @@ use mathlib.Core.Bool.{cond}
 use mathlib.Core.List.{List, [], _∷_, _++_}
 use Prim.Native.Nat.{ℕ, zero, suc, _+_, _-_, _*_, _/_, _%_}
 use lib.Dec.{ltb}
-use lib.ListN.{take, drop, replicate}
+use lib.ListN.{take, replicate}
 use Rattle.calls.specs.Call.{Call, Open, Feed, Draw, Check, Close, Sum, events, final}
 use Rattle.hub.specs.declared.Hub.{Hub}
 use Rattle.hub.specs.Hub.{emptyHub, onHub}
-use Rattle.script.specs.Text.{text, newline, Wrote}
+use Rattle.script.specs.Text.{text, newline, part, Wrote}
 use Rattle.listing.specs.declared.Listed.{Listed}
-use Rattle.listing.specs.Listing.{named, numberField, bytesField, lines}
+use Rattle.listing.specs.Listing.{numberField, threeFields, lines}
 use Rattle.day.specs.declared.Planned.{Planned}
 use Rattle.day.specs.declared.Planned.the-variants as planned
 use Rattle.day.specs.declared.Step.{Step}
 use Rattle.day.specs.declared.Step.the-variants.{Begin, Make, Turns, FeedOften}
 
--- so many bytes of the sample, from a place on
-abbrev pub cut : List ℕ → ℕ → ℕ → List ℕ
-cut sample start n = take n (drop start sample)
-
--- a buffer as it is lent to draws, and bytes as they are fed often: all the same, and no more than there are
+-- a buffer of n bytes, at most 48, as it is lent to draws; and n equal bytes, at most 4,096, as they are fed often
 abbrev pub lent : ℕ → List ℕ
 lent n = take n (replicate 48 170)
 
@@ -30,10 +26,10 @@ alike byte n = take n (replicate 4096 byte)
 
 -- the call that is planned
 unfoldable pub callOf : Planned → List ℕ → Call
-callOf (planned.Open mode start n) sample = Open mode (cut sample start n)
-callOf (planned.Feed ticket start n) sample = Feed ticket (cut sample start n)
+callOf (planned.Open mode start n) sample = Open mode (part start n sample)
+callOf (planned.Feed ticket start n) sample = Feed ticket (part start n sample)
 callOf (planned.Draw ticket n place count) sample = Draw ticket (lent n) place count
-callOf (planned.Check ticket start n) sample = Check ticket (cut sample start n)
+callOf (planned.Check ticket start n) sample = Check ticket (part start n sample)
 callOf (planned.Close ticket) sample = Close ticket
 callOf planned.Sum sample = Sum
 
@@ -55,7 +51,7 @@ beginText = text "empty\n"
 
 -- the line of a feed that is made so many times and whose answers are not listed
 unfoldable pub oftenText : ℕ → List ℕ → ℕ → List ℕ
-oftenText ticket bytes times = named (text "often") ticket ++ bytesField bytes ++ numberField times ++ (newline ∷ [])
+oftenText ticket bytes times = threeFields (text "often") ticket bytes ++ numberField times ++ (newline ∷ [])
 
 -- the hub after a step
 unfoldable pub stepAfter : Step → List ℕ → Hub → Hub
@@ -71,8 +67,8 @@ stepText (Make p) sample h = lines (events onHub h (callOf p sample ∷ []))
 stepText (Turns first end) sample h = lines (events onHub h (turnsFrom first (end - first) sample))
 stepText (FeedOften ticket byte n times) sample h = oftenText ticket (alike byte n) times
 
--- `r` has the hub after a step and the place behind its text, as `Lists` has them after calls
-pub record Steps (step : Step) (sample : List ℕ) (before : Hub) (first : List ℕ) (at : ℕ) (last : List ℕ) (r : Listed) : Type 0 where
+-- a step was made and listed: `r` has the hub after it and the place behind its text, as `Lists` says it of calls
+pub record StepListed (step : Step) (sample : List ℕ) (before : Hub) (first : List ℕ) (at : ℕ) (last : List ℕ) (r : Listed) : Type 0 where
   pub hub : r .hub ≡ stepAfter step sample before
   pub text : Wrote first at (stepText step sample before) last (r .next)
 

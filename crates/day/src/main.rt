@@ -4,13 +4,13 @@ use hub::Hub;
 use listing::Listed;
 ghost use mathlib.Core.Path.{_≡_};
 ghost use mathlib.Core.List.{[], _∷_};
-ghost use Prim.Native.Nat.{_-_, _≤_, _<_};
+ghost use Prim.Native.Nat.{_-_, _≤_};
 ghost use lib.ListN.{length, replicate};
 ghost use Rattle.calls.specs.Call as call;
 ghost use Rattle.hub.specs.Hub.{emptyHub, onHub};
 ghost use Rattle.script.specs.Text.{Wrote};
 ghost use Rattle.listing.specs.Listing.{Lists};
-ghost use Rattle.day.specs.declared.Step.the-variants.{Begin, FeedOften};
+ghost use Rattle.day.specs.declared.Step.the-variants.{FeedOften};
 ghost use Rattle.day.specs.Day as spec;
 
 // A call of the plan. Its bytes are so many of the sample from a place on: after the mode or the ticket stand the place and how many. A draw has the length of the
@@ -328,7 +328,7 @@ fn often(
     text: &mut [u8],
     at: usize,
 ) -> Listed
-    ensures { λ r. ⌜ spec.Steps (FeedOften ticket byte n times) (now (sample .entry)) before (now (text .entry)) at (now (text .exit)) r ⌝ }
+    ensures { λ r. ⌜ spec.StepListed (FeedOften ticket byte n times) (now (sample .entry)) before (now (text .entry)) at (now (text .exit)) r ⌝ }
 {
     let alike = [byte; 4096];
     let bytes = script::part(&alike, 0, n);
@@ -342,7 +342,7 @@ fn often(
 
 fn make_step(before: Hub, step: Step, sample: &[u8], text: &mut [u8], at: usize) -> Listed
     requires { ⌜ at ≤ length (now text) ⌝ }
-    ensures { λ r. ⌜ spec.Steps step (now (sample .entry)) before (now (text .entry)) at (now (text .exit)) r ⌝ }
+    ensures { λ r. ⌜ spec.StepListed step (now (sample .entry)) before (now (text .entry)) at (now (text .exit)) r ⌝ }
 {
     match step {
         Step::Begin => begin(text, at),
@@ -361,7 +361,7 @@ fn make_step(before: Hub, step: Step, sample: &[u8], text: &mut [u8], at: usize)
     }
 }
 
-// The text of a whole plan, which begins with an empty hub; answers how long it is.
+// The text of a whole plan, which begins with an empty hub, from the buffer's start on; answers the place behind it.
 fn list_plan(plan: [Step; 78], sample: &[u8], text: &mut [u8]) -> usize
     ensures { λ r. ⌜ Wrote (now (text .entry)) 0 (spec.planText plan (now (sample .entry)) emptyHub) (now (text .exit)) r ⌝ }
 {

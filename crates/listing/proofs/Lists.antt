@@ -2,7 +2,7 @@
 -- Assumes nothing.
 use mathlib.Core.Path.{_≡_, refl, sym, ap, _∙_, subst}
 use mathlib.Core.List.{List, [], _∷_, _++_, append-nil, append-assoc}
-use Prim.Native.Nat.{ℕ, _≤_, min}
+use Prim.Native.Nat.{ℕ, _≤_}
 use native.Mathlib.Omega.{arith}
 use lib.ListN.{length}
 use Rattle.mode.specs.declared.Named.{Named}
@@ -44,7 +44,7 @@ final-append h [] ds = refl
 final-append h (c ∷ cs) ds = final-append (onHub c h .after) cs ds
 
 -- no call
-pub lists-none : (h : Hub) (text : List ℕ) (at : ℕ) → at ≤ length text → Lists [] h text at text (record { hub = h; next = at })
+lists-none : (h : Hub) (text : List ℕ) (at : ℕ) → at ≤ length text → Lists [] h text at text (record { hub = h; next = at })
 unfolding events final lines
 lists-none h text at l = record { hub = refl; text = wrote-none text at at (omega arith) }
 

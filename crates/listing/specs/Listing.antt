@@ -23,29 +23,33 @@ unfoldable pub bytesField : List ℕ → List ℕ
 bytesField bs = (space ∷ []) ++ bytesText bs
 
 -- a name, and the number after it
-unfoldable pub named : List ℕ → ℕ → List ℕ
-named name n = name ++ numberField n
+unfoldable pub numbered : List ℕ → ℕ → List ℕ
+numbered name n = name ++ numberField n
 
--- what was called, with what: a name, a number and bytes, and of a draw its place and its count
+-- a name, a number and bytes
+unfoldable pub threeFields : List ℕ → ℕ → List ℕ → List ℕ
+threeFields name n bs = numbered name n ++ bytesField bs
+
+-- what was called, with what. A close has no bytes and a sum neither number nor bytes: there stand 0 and `-`
 unfoldable pub callText : Call → List ℕ
-callText (Open mode key) = named (text "open") mode ++ bytesField key
-callText (Feed ticket bytes) = named (text "feed") ticket ++ bytesField bytes
-callText (Draw ticket buffer place count) = named (text "draw") ticket ++ bytesField buffer ++ numberField place ++ numberField count
-callText (Check ticket tag) = named (text "check") ticket ++ bytesField tag
-callText (Close ticket) = named (text "close") ticket ++ bytesField []
-callText Sum = named (text "sum") 0 ++ bytesField []
+callText (Open mode key) = threeFields (text "open") mode key
+callText (Feed ticket bytes) = threeFields (text "feed") ticket bytes
+callText (Draw ticket buffer place count) = threeFields (text "draw") ticket buffer ++ numberField place ++ numberField count
+callText (Check ticket tag) = threeFields (text "check") ticket tag
+callText (Close ticket) = threeFields (text "close") ticket []
+callText Sum = threeFields (text "sum") 0 []
 
 abbrev pub bit : Bool → ℕ
 bit b = cond b 1 0
 
 unfoldable pub answerText : Answer → List ℕ
 answerText a =
-    named (text " = refusal") (a .refusal) ++ named (text " ticket") (a .ticket) ++ named (text " runs") (a .runs) ++ named (text " passed") (bit (a .passed)) ++
-    named (text " sum") (a .sum)
+    numbered (text " refusal") (a .refusal) ++ numbered (text " ticket") (a .ticket) ++ numbered (text " runs") (a .runs) ++ numbered (text " passed") (bit (a .passed)) ++
+    numbered (text " sum") (a .sum)
 
 -- what it gave, to the line's end
 unfoldable pub responseText : Response → List ℕ
-responseText r = answerText (r .answer) ++ bytesField (r .buffer) ++ (newline ∷ [])
+responseText r = text " =" ++ answerText (r .answer) ++ bytesField (r .buffer) ++ (newline ∷ [])
 
 unfoldable pub line : Event → List ℕ
 line e = callText (e .call) ++ responseText (e .response)

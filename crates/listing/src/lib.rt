@@ -34,8 +34,8 @@ fn put_hex_field(text: &mut [u8], at: usize, bytes: &[u8]) -> usize
     put_field(text, after_space, bytes)
 }
 
-fn put_named(text: &mut [u8], at: usize, name: &[u8], n: u64) -> usize
-    ensures { λ r. ⌜ Wrote (now (text .entry)) at (spec.named (now (name .entry)) n) (now (text .exit)) r ⌝ }
+fn put_numbered(text: &mut [u8], at: usize, name: &[u8], n: u64) -> usize
+    ensures { λ r. ⌜ Wrote (now (text .entry)) at (spec.numbered (now (name .entry)) n) (now (text .exit)) r ⌝ }
 {
     let after_name = put_bytes(text, at, name);
     put_number(text, after_name, n)
@@ -53,27 +53,28 @@ fn bit(b: bool) -> u64
 fn put_answer(text: &mut [u8], at: usize, answer: Answer) -> usize
     ensures { λ r. ⌜ Wrote (now (text .entry)) at (spec.answerText answer) (now (text .exit)) r ⌝ }
 {
-    let after_refusal = put_named(text, at, b" = refusal", answer.refusal as u64);
-    let after_ticket = put_named(text, after_refusal, b" ticket", answer.ticket as u64);
-    let after_runs = put_named(text, after_ticket, b" runs", answer.runs);
-    let after_passed = put_named(text, after_runs, b" passed", bit(answer.passed));
-    put_named(text, after_passed, b" sum", answer.sum)
+    let after_refusal = put_numbered(text, at, b" refusal", answer.refusal as u64);
+    let after_ticket = put_numbered(text, after_refusal, b" ticket", answer.ticket as u64);
+    let after_runs = put_numbered(text, after_ticket, b" runs", answer.runs);
+    let after_passed = put_numbered(text, after_runs, b" passed", bit(answer.passed));
+    put_numbered(text, after_passed, b" sum", answer.sum)
 }
 
 // The answer, the buffer as the call leaves it, and the line's end.
 fn put_response(text: &mut [u8], at: usize, answer: Answer, buffer: &[u8]) -> usize
     ensures { λ r. ⌜ Wrote (now (text .entry)) at (spec.responseText (record { answer = answer; buffer = now (buffer .entry) })) (now (text .exit)) r ⌝ }
 {
-    let after_answer = put_answer(text, at, answer);
+    let after_equals = put_bytes(text, at, b" =");
+    let after_answer = put_answer(text, after_equals, answer);
     let after_buffer = put_hex_field(text, after_answer, buffer);
     put_byte(text, after_buffer, b'\n')
 }
 
 // The name of a call, its number and its bytes.
 pub fn put_call(text: &mut [u8], at: usize, name: &[u8], number: u32, bytes: &[u8]) -> usize
-    ensures { λ r. ⌜ Wrote (now (text .entry)) at (spec.named (now (name .entry)) number ++ spec.bytesField (now (bytes .entry))) (now (text .exit)) r ⌝ }
+    ensures { λ r. ⌜ Wrote (now (text .entry)) at (spec.threeFields (now (name .entry)) number (now (bytes .entry))) (now (text .exit)) r ⌝ }
 {
-    let after_number = put_named(text, at, name, number as u64);
+    let after_number = put_numbered(text, at, name, number as u64);
     put_hex_field(text, after_number, bytes)
 }
 
@@ -86,7 +87,7 @@ pub fn put_line(
     bytes: &[u8],
     answer: Answer,
 ) -> usize
-    ensures { λ r. ⌜ Wrote (now (text .entry)) at (spec.named (now (name .entry)) number ++ spec.bytesField (now (bytes .entry)) ++ spec.responseText (record { answer = answer; buffer = [] })) (now (text .exit)) r ⌝ }
+    ensures { λ r. ⌜ Wrote (now (text .entry)) at (spec.threeFields (now (name .entry)) number (now (bytes .entry)) ++ spec.responseText (record { answer = answer; buffer = [] })) (now (text .exit)) r ⌝ }
 {
     let after_call = put_call(text, at, name, number, bytes);
     put_response(text, after_call, answer, b"")

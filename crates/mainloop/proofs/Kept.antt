@@ -19,7 +19,8 @@ use Rattle.listing.specs.Listing.{line, lines, Lists}
 use Rattle.listing.proofs.Lists.{event, feed-leaves, close-leaves}
 use Rattle.mainloop.specs.declared.Answers.{Answers}
 use Rattle.mainloop.specs.declared.Served.{Served}
-use Rattle.mainloop.specs.Rounds.{feedTicket, closeTicket, roundsFrom, keep, roundOn, servedFrom, noAnswer, roundText, roundsText}
+use Rattle.mainloop.specs.Rounds.{feedTicket, closeTicket, roundsFrom}
+use Rattle.mainloop.specs.Kept.{keep, roundOn, servedFrom, noAnswer, roundText, roundsText}
 
 -- there are as many as before
 kept-length : (i : ℕ) (fed closed : Answer) (a : Answers) → length (keep i fed closed a .kept) ≡ length (a .kept)
@@ -75,7 +76,7 @@ closed-line i h = ap (λ (b : List ℕ). line (record { call = Close (closeTicke
     (close-leaves (closeTicket i) h)
 
 -- the text of the answers that n rounds leave is that of their calls
-pub served-text : (n i : ℕ) (bytes : List ℕ) (s : Served) → i + n ≤ 150 → length (s .answers .kept) ≡ 300
+served-text : (n i : ℕ) (bytes : List ℕ) (s : Served) → i + n ≤ 150 → length (s .answers .kept) ≡ 300
     → roundsText i n bytes (servedFrom i n bytes s .answers) ≡ lines (events onHub (s .hub) (roundsFrom i n bytes))
 unfolding servedFrom roundOn roundsText roundText roundsFrom events lines onHub
 served-text zero i bytes s l e = refl
@@ -94,7 +95,7 @@ served-text (suc n) i bytes s l e =
     (served-text n (suc i) bytes next (omega arith) (kept-length i f c (s .answers) ∙ e))
 
 -- and the hub that they leave is that of their calls
-pub served-hub : (n i : ℕ) (bytes : List ℕ) (s : Served) → servedFrom i n bytes s .hub ≡ final onHub (s .hub) (roundsFrom i n bytes)
+served-hub : (n i : ℕ) (bytes : List ℕ) (s : Served) → servedFrom i n bytes s .hub ≡ final onHub (s .hub) (roundsFrom i n bytes)
 unfolding servedFrom roundOn roundsFrom final onHub
 served-hub zero i bytes s = refl
 served-hub (suc n) i bytes s = served-hub n (suc i) bytes (roundOn i bytes s)

@@ -15,7 +15,8 @@ use Rattle.hub.specs.declared.Reply.{Reply}
 use Rattle.hub.specs.Hub.{feedHub, closeHub, replyOf}
 use Rattle.mainloop.specs.declared.Answers.{Answers}
 use Rattle.mainloop.specs.declared.Served.{Served}
-use Rattle.mainloop.specs.Rounds.{feedTicket, closeTicket, keep, roundOn, servedFrom, noAnswer, roundText, roundsText, lentOut, drawsFrom}
+use Rattle.mainloop.specs.Rounds.{feedTicket, closeTicket, lentOut, drawsFrom}
+use Rattle.mainloop.specs.Kept.{keep, roundOn, servedFrom, noAnswer, roundText, roundsText}
 
 -- ---- the answers of a round are kept
 

@@ -1,2 +1,3 @@
 -- Crate `mainloop`: its definitions.
 pub mod Rounds
+pub mod Kept

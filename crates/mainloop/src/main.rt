@@ -5,13 +5,13 @@ use calls::Answer;
 use hub::Hub;
 use listing::Listed;
 ghost use mathlib.Core.Path.{_≡_};
-ghost use mathlib.Core.List.{[], _∷_, _++_};
-ghost use Prim.Native.Nat.{_-_, _≤_};
+ghost use mathlib.Core.List.{[], _∷_};
+ghost use Prim.Native.Nat.{_≤_};
 ghost use lib.ListN.{length, replicate};
-ghost use Rattle.calls.specs.Call.{Open, Draw, Sum};
-ghost use Rattle.hub.specs.Hub.{emptyHub};
+ghost use Rattle.calls.specs.Call.{Open, Draw};
 ghost use Rattle.script.specs.Text.{Wrote};
 ghost use Rattle.listing.specs.Listing.{Lists};
+ghost use Rattle.mainloop.specs.Kept as kept;
 ghost use Rattle.mainloop.specs.Rounds as spec;
 
 const ROUNDS: usize = 150;
@@ -43,7 +43,7 @@ fn close_ticket(i: usize) -> u32
 
 // Those of round i. There is room for so many rounds; of a later one nothing is kept.
 fn keep(answers: Answers, i: usize, fed: Answer, closed: Answer) -> Answers
-    ensures { λ r. ⌜ r ≡ spec.keep i fed closed answers ⌝ }
+    ensures { λ r. ⌜ r ≡ kept.keep i fed closed answers ⌝ }
 {
     let mut kept = answers.kept;
     if i < ROUNDS {
@@ -64,7 +64,7 @@ fn after_rounds(hub: Hub, answers: Answers) -> Served
 
 // The hub handed on by value.
 fn serve_by_value(hub: Hub, answers: Answers, bytes: &[u8], rounds: usize) -> Served
-    ensures { λ r. ⌜ r ≡ spec.servedFrom 0 rounds (now (bytes .entry)) (record { hub = hub; answers = answers }) ⌝ }
+    ensures { λ r. ⌜ r ≡ kept.servedFrom 0 rounds (now (bytes .entry)) (record { hub = hub; answers = answers }) ⌝ }
 {
     let mut current = hub;
     let mut kept = answers;
@@ -81,7 +81,7 @@ fn serve_by_value(hub: Hub, answers: Answers, bytes: &[u8], rounds: usize) -> Se
 
 // The hub held here and lent.
 fn serve_in_place(hub: Hub, answers: Answers, bytes: &[u8], rounds: usize) -> Served
-    ensures { λ r. ⌜ r ≡ spec.servedFrom 0 rounds (now (bytes .entry)) (record { hub = hub; answers = answers }) ⌝ }
+    ensures { λ r. ⌜ r ≡ kept.servedFrom 0 rounds (now (bytes .entry)) (record { hub = hub; answers = answers }) ⌝ }
 {
     let mut held = hub;
     let mut kept = answers;
@@ -95,10 +95,10 @@ fn serve_in_place(hub: Hub, answers: Answers, bytes: &[u8], rounds: usize) -> Se
     after_rounds(held, kept)
 }
 
-fn serve(hub: Hub, answers: Answers, bytes: &[u8], lent: bool) -> Served
-    ensures { λ r. ⌜ r ≡ spec.servedFrom 0 150 (now (bytes .entry)) (record { hub = hub; answers = answers }) ⌝ }
+fn serve(hub: Hub, answers: Answers, bytes: &[u8], in_place: bool) -> Served
+    ensures { λ r. ⌜ r ≡ kept.servedFrom 0 spec.rounds (now (bytes .entry)) (record { hub = hub; answers = answers }) ⌝ }
 {
-    if lent {
+    if in_place {
         return serve_in_place(hub, answers, bytes, ROUNDS);
     }
     serve_by_value(hub, answers, bytes, ROUNDS)
@@ -114,7 +114,7 @@ fn put_round(
     fed: Answer,
     closed: Answer,
 ) -> usize
-    ensures { λ r. ⌜ Wrote (now (text .entry)) at (spec.roundText i (now (bytes .entry)) fed closed) (now (text .exit)) r ⌝ }
+    ensures { λ r. ⌜ Wrote (now (text .entry)) at (kept.roundText i (now (bytes .entry)) fed closed) (now (text .exit)) r ⌝ }
 {
     let after_feed = listing::put_line(text, at, b"feed", feed_ticket(i), bytes, fed);
     listing::put_line(text, after_feed, b"close", close_ticket(i), b"", closed)
@@ -122,7 +122,7 @@ fn put_round(
 
 fn put_rounds(text: &mut [u8], at: usize, bytes: &[u8], answers: Answers) -> usize
     requires { ⌜ at ≤ length (now text) ⌝ }
-    ensures { λ r. ⌜ Wrote (now (text .entry)) at (spec.roundsText 0 150 (now (bytes .entry)) answers) (now (text .exit)) r ⌝ }
+    ensures { λ r. ⌜ Wrote (now (text .entry)) at (kept.roundsText 0 spec.rounds (now (bytes .entry)) answers) (now (text .exit)) r ⌝ }
 {
     let kept = answers.kept;
     let mut next = at;
@@ -135,13 +135,13 @@ fn put_rounds(text: &mut [u8], at: usize, bytes: &[u8], answers: Answers) -> usi
 }
 
 // The rounds are made, and then listed by their answers.
-fn rounds(before: Hub, lent: bool, bytes: &[u8], text: &mut [u8], at: usize) -> Listed
+fn rounds(before: Hub, in_place: bool, bytes: &[u8], text: &mut [u8], at: usize) -> Listed
     requires { ⌜ at ≤ length (now text) ⌝ }
-    ensures { λ r. ⌜ Lists (spec.roundsFrom 0 150 (now (bytes .entry))) before (now (text .entry)) at (now (text .exit)) r ⌝ }
+    ensures { λ r. ⌜ Lists (spec.roundsFrom 0 spec.rounds (now (bytes .entry))) before (now (text .entry)) at (now (text .exit)) r ⌝ }
 {
     let none = Answer::refused(0);
     let unanswered = Answers { kept: [none; 300] };
-    let served = serve(before, unanswered, bytes, lent);
+    let served = serve(before, unanswered, bytes, in_place);
     let answers = served.answers;
     let next = put_rounds(text, at, bytes, answers);
     let after = served.hub;
@@ -177,7 +177,7 @@ fn draw(before: Hub, ticket: u32, count: usize, text: &mut [u8], at: usize) -> L
     listing::draw(before, ticket, &mut out, 0, count, text, at)
 }
 
-// What each of the tickets 1 to 25 gives, the closed ones too.
+// From every ticket, closed ones too, and from 25, which was never issued.
 fn draw_all(before: Hub, text: &mut [u8], at: usize) -> Listed
     requires { ⌜ at ≤ length (now text) ⌝ }
     ensures { λ r. ⌜ Lists (spec.drawsFrom 1 25) before (now (text .entry)) at (now (text .exit)) r ⌝ }
@@ -220,15 +220,15 @@ fn ending(before: Hub, key: &[u8], text: &mut [u8], at: usize) -> Listed
 }
 
 // All calls, on a hub that is lent or handed on by value: the text is the same.
-fn list(lent: bool, key: &[u8], few: &[u8], message: &[u8], text: &mut [u8], at: usize) -> usize
+fn list(in_place: bool, key: &[u8], few: &[u8], message: &[u8], text: &mut [u8], at: usize) -> usize
     ensures { λ r. ⌜ Wrote (now (text .entry)) at (spec.listText (now (key .entry)) (now (few .entry)) (now (message .entry))) (now (text .exit)) r ⌝ }
 {
     let start = script::put_bytes(text, at, b"empty\n");
     let opened = opening(Hub::empty(), key, text, start);
     let after_opened = opened.hub;
-    let fed_few = rounds(after_opened, lent, few, text, opened.next);
+    let fed_few = rounds(after_opened, in_place, few, text, opened.next);
     let after_few = fed_few.hub;
-    let fed = rounds(after_few, lent, message, text, fed_few.next);
+    let fed = rounds(after_few, in_place, message, text, fed_few.next);
     let after_fed = fed.hub;
     let ended = ending(after_fed, key, text, fed.next);
     ended.next

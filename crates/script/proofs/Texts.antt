@@ -166,11 +166,6 @@ wrote-length {l} {t} {l′} {at} w = ap length (w .bytes) ∙ length-sets l at t
 pub wrote-inside : {l t l′ : List ℕ} {at n : ℕ} → Wrote l at t l′ n → n ≤ length l′
 wrote-inside {l} {t} {l′} {at} {n} w = omega (arith, w .place, wrote-length w)
 
--- a text that fills the buffer is all that it holds
-pub wrote-all : {l t l′ : List ℕ} {n : ℕ} → Wrote l 0 t l′ n → length t ≡ length l → l′ ≡ t
-wrote-all {l} {t} w e =
-    w .bytes ∙ sets-eq t l 0 (omega arith) ∙ ap (λ (r : List ℕ). t ++ r) (drop-of-length-le l {i = 0 + length t} (omega arith)) ∙ append-nil t
-
 -- one text behind the other is one text
 pub wrote-more : {l t l′ u l″ : List ℕ} {at n m : ℕ} → Wrote l at t l′ n → Wrote l′ n u l″ m → Wrote l at (t ++ u) l″ m
 wrote-more {l} {t} {l′} {u} {l″} {at} {n} {m} w v =

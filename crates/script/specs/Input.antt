@@ -4,8 +4,7 @@ use mathlib.Core.Bool.{cond}
 use mathlib.Core.List.{List, [], _∷_}
 use Prim.Native.Nat.{ℕ}
 use lib.Dec.{eqb}
-use lib.ListN.{take, drop}
-use Rattle.script.specs.Text.{newline, before}
+use Rattle.script.specs.Text.{newline, before, part}
 
 -- a byte in front of the first line
 abbrev pub inFront : ℕ → List (List ℕ) → List (List ℕ)
@@ -19,4 +18,4 @@ lines (b ∷ s) = cond (eqb b newline) ([] ∷ lines s) (inFront b (lines s))
 
 -- what a chunk has of a line from place `at` on: up to a newline or the chunk's end, and no more than there is room for
 unfoldable pub piece : List ℕ → ℕ → ℕ → List ℕ
-piece chunk at room = before newline (take room (drop at chunk))
+piece chunk at room = before newline (part at room chunk)

@@ -7,7 +7,7 @@ use Prim.Native.Nat.{ℕ, _+_, min}
 use Prim.Native.Char.{code}
 use Prim.Native.String.{String, [] as «end», _∷_ as _then_}
 use lib.Dec.{eqb}
-use lib.ListN.{length}
+use lib.ListN.{length, take, drop}
 use lib.Seq.{sets}
 
 -- the bytes of a quoted text; all that are quoted here are ASCII, where a character's code is its byte
@@ -33,6 +33,10 @@ before b (a ∷ s) = cond (eqb a b) [] (a ∷ before b s)
 unfoldable pub after : ℕ → List ℕ → List ℕ
 after b [] = []
 after b (a ∷ s) = cond (eqb a b) s (after b s)
+
+-- what stands from place `at` on, and at most so many bytes of it
+abbrev pub part : ℕ → ℕ → List ℕ → List ℕ
+part at most s = take most (drop at s)
 
 -- A text was written into a buffer: `last` is the buffer `first` with the text from place `at` on, and `next` the place after it. What does not fit is left out, and
 -- `next` is then the buffer's end. (`sets` stores one byte after the other, and a store past the end does nothing.)

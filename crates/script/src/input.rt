@@ -1,26 +1,12 @@
 // Cutting input into lines.
 use crate::text::before;
+use crate::text::part;
 use crate::text::put_bytes;
 ghost use mathlib.Core.Path.{_≡_};
 ghost use Prim.Native.Nat.{_-_};
-ghost use lib.ListN.{length, take, drop};
+ghost use lib.ListN.{length};
 ghost use lib.Seq.{sets};
 ghost use Rattle.script.specs.Input.{piece};
-
-// What stands in the chunk from at on, and at most so many bytes of it.
-pub fn part(chunk: &[u8], at: usize, most: usize) -> &[u8]
-    ensures { λ r. ⌜ now r ≡ take most (drop at (now (chunk .entry))) ⌝ }
-{
-    if chunk.len() <= at {
-        let end = chunk.len();
-        return &chunk[end..];
-    }
-    if chunk.len() - at <= most {
-        return &chunk[at..];
-    }
-    let end = at + most;
-    &chunk[at..end]
-}
 
 fn room(line: &[u8], held: usize) -> usize
     ensures { λ r. ⌜ r ≡ length (now (line .entry)) - held ⌝ }

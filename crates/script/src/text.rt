@@ -55,6 +55,21 @@ pub(crate) fn after(s: &[u8], b: u8) -> &[u8]
     &s[at..]
 }
 
+// What stands from at on, and at most so many bytes of it.
+pub fn part(s: &[u8], at: usize, most: usize) -> &[u8]
+    ensures { λ r. ⌜ now r ≡ spec.part at most (now (s .entry)) ⌝ }
+{
+    if s.len() <= at {
+        let end = s.len();
+        return &s[end..];
+    }
+    if s.len() - at <= most {
+        return &s[at..];
+    }
+    let end = at + most;
+    &s[at..end]
+}
+
 // ---- writing: each function takes the place to write at, and answers the place after what it wrote
 
 // at, or the buffer's end where at is past it.

@@ -1,7 +1,7 @@
 -- How a state starts, in the sponge and in the short function: a value of eight bytes, then others, then zeros up to forty. Made words, the value is the first one,
 -- and the others are xored in behind it.
 -- Assumes nothing.
-use mathlib.Core.Path.{_≡_, refl, sym, ap, _∙_}
+use mathlib.Core.Path.{_≡_, refl, sym, _∙_}
 use mathlib.Core.List.{List, [], _∷_, _++_}
 use Prim.Native.Nat.{ℕ, _+_, _-_, _*_, _≤_}
 use native.Mathlib.Omega.{arith}

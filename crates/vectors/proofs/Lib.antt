@@ -1,3 +1,3 @@
 -- Crate `vectors`: its laws.
-pub mod Text
+pub mod Messages
 pub mod Lines

@@ -1,3 +1,3 @@
 -- Crate `vectors`: its definitions.
-pub mod Text
+pub mod Messages
 pub mod Lines

@@ -11,7 +11,7 @@ use Rattle.prf_short.specs.Short.{prfShort}
 use Rattle.script.specs.Text.{text, space, newline}
 use Rattle.script.specs.Number.{decimal}
 use Rattle.script.specs.Hex.{hexOf}
-use Rattle.vectors.specs.Text.{countingFrom, lengthOf}
+use Rattle.vectors.specs.Messages.{countingFrom, lengthOf}
 
 -- a line: a number, and an output in hexadecimal digits
 unfoldable pub line : ℕ → List ℕ → List ℕ

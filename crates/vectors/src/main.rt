@@ -9,7 +9,7 @@ ghost use Rattle.mode.specs.Mode.{row};
 ghost use Rattle.sponge.specs.Sponge.{oneShot};
 ghost use Rattle.sponge.specs.Record.{absorbed};
 ghost use Rattle.script.specs.Text.{Wrote};
-ghost use Rattle.vectors.specs.Text.{countingFrom, lengthOf};
+ghost use Rattle.vectors.specs.Messages.{countingFrom, lengthOf};
 ghost use Rattle.vectors.specs.Lines.{line, modeLine, shortLine, modeSection, shortSection, vectors};
 
 // The longest message.

@@ -109,6 +109,41 @@ pub fn wrong(text: &str) -> Vec<(usize, Answer)> {
     found
 }
 
+/// What a list does with the tickets of a mode: the most bytes that one accepted feed took, and of each accepted draw how many bytes it changed. Every draw is lent bytes aa,
+/// so that a list that shows the buffer as a draw left it, where it shows the buffer that was lent, is found.
+#[derive(Debug, Default)]
+pub struct Use {
+    pub fed: usize,
+    pub drawn: Vec<usize>,
+}
+
+pub fn uses(text: &str) -> BTreeMap<u32, Use> {
+    let mut modes = BTreeMap::new();
+    let mut uses: BTreeMap<u32, Use> = BTreeMap::new();
+    for line in text.lines() {
+        match parse(line) {
+            Line::Call(Call::Draw { ticket, buffer, .. }, answer) => {
+                assert!(buffer.iter().all(|byte| *byte == 0xaa), "{line}");
+                if answer.refusal == 0 {
+                    let after = answer.buffer.unwrap();
+                    let changed = after.iter().filter(|byte| **byte != 0xaa).count();
+                    uses.entry(modes[&ticket]).or_default().drawn.push(changed);
+                }
+            }
+            Line::Call(Call::Open { mode, .. }, answer) if answer.refusal == 0 => {
+                modes.insert(answer.ticket, mode);
+            }
+            Line::Call(Call::Feed { ticket, bytes }, answer) if answer.refusal == 0 => {
+                let fed = &mut uses.entry(modes[&ticket]).or_default().fed;
+                *fed = bytes.len().max(*fed);
+            }
+            Line::Empty => modes.clear(),
+            _ => (),
+        }
+    }
+    uses
+}
+
 /// A line with another last digit in one field of its answer: a number, or the buffer that a draw gave back.
 fn changed(line: &str, name: &str) -> Option<String> {
     let (call, answer) = line.split_once(" = ")?;

@@ -1,5 +1,5 @@
 //! The calls that the program `day` made and what it printed of them, each worked out anew by the plain machine. `rt ci` holds the program to the file that is read here.
-use reference::listing::{changes_found, parse, wrong, Line};
+use reference::listing::{changes_found, parse, uses, wrong, Line};
 use reference::machine::Call;
 use std::collections::BTreeSet;
 use std::path::Path;
@@ -44,6 +44,16 @@ fn every_kind_of_call_and_refusal_occurs() {
         ["check", "close", "draw", "feed", "open", "sum"]
     );
     assert_eq!(verdicts.into_iter().collect::<Vec<_>>(), [false, true]);
+}
+
+/// Every mode is fed more than a block at once; and a draw crosses a block, but in the MAC, which gives no more than one.
+#[test]
+fn blocks_are_crossed_in_every_mode() {
+    let uses = uses(&printed());
+    for (mode, block, drawn) in [(1, 32, 17), (2, 32, 12), (3, 8, 9), (4, 8, 9)] {
+        let most = uses[&mode].drawn.iter().max();
+        assert!(uses[&mode].fed > block && most >= Some(&drawn), "{mode}");
+    }
 }
 
 #[test]

@@ -1,5 +1,5 @@
 //! What the program `mainloop` printed: the same calls on a hub by value and on one that stays in its memory. `rt ci` holds the program to the file that is read here.
-use reference::listing::{changes_found, parse, wrong, Line};
+use reference::listing::{changes_found, parse, uses, wrong, Line};
 use reference::machine::Call;
 use std::collections::BTreeMap;
 use std::path::Path;
@@ -33,10 +33,10 @@ fn every_answer_and_every_byte_is_the_plain_machines() {
 #[test]
 fn each_round_feeds_its_message() {
     let (_, in_place) = printed();
-    let fed: Vec<Vec<u8>> = in_place
+    let fed: Vec<(Vec<u8>, bool)> = in_place
         .lines()
         .filter_map(|line| match parse(line) {
-            Line::Call(Call::Feed { bytes, .. }, _) => Some(bytes),
+            Line::Call(Call::Feed { bytes, .. }, answer) => Some((bytes, answer.refusal == 0)),
             _ => None,
         })
         .collect();
@@ -44,8 +44,21 @@ fn each_round_feeds_its_message() {
         255, 0, 1, 128, 127, 64, 32, 16, 8, 4, 2, 1, 90, 165, 3, 7, 15, 31, 63, 127,
     ];
     assert_eq!(fed.len(), 300);
-    assert!(fed[..150].iter().all(|bytes| bytes == &[129, 66, 36]));
-    assert!(fed[150..].iter().all(|bytes| bytes == &message));
+    assert!(fed[..150].iter().all(|feed| feed.0 == [129, 66, 36]));
+    assert!(fed[150..].iter().all(|feed| feed.0 == message));
+    let accepted = |feeds: &[(Vec<u8>, bool)]| feeds.iter().filter(|feed| feed.1).count();
+    assert!(accepted(&fed[..150]) > 50 && accepted(&fed[150..]) > 20);
+}
+
+/// What was fed is seen in what is drawn at the end.
+#[test]
+fn tickets_that_were_fed_are_drawn_from() {
+    let (_, in_place) = printed();
+    let uses = uses(&in_place);
+    for mode in [1, 3] {
+        let drawn = uses[&mode].drawn.iter().filter(|n| **n > 8).count();
+        assert!(uses[&mode].fed == 20 && drawn > 1, "{mode} {uses:?}");
+    }
 }
 
 #[test]

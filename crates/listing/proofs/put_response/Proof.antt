@@ -6,6 +6,12 @@ use Rattle.listing.specs.Listing.{responseText}
 use Rattle.listing.proofs.put_response.Statement.{statement}
 use Rattle.listing.proofs.put_response.Tie as tie
 
+slice-aggregate-put-bytes : tie.Need-slice-aggregate-put-bytes
+slice-aggregate-put-bytes c = search needs
+
+put-bytes-requires : tie.Need-put-bytes-requires
+put-bytes-requires c κs = search needs
+
 put-answer-requires : tie.Need-put-answer-requires
 put-answer-requires c κs = search needs
 
@@ -21,11 +27,19 @@ same-length c = search needs
 returns : tie.Need-returns
 unfolding responseText
 returns c =
-    wrote-more (wrote-more (c .before .before .before .before .before .before .before .before .before .before .put-answer .ensures)
+    wrote-more (wrote-more (wrote-more (c .before .before .before .before .before .before .before .before .before .before .before .before .before .before .put-bytes .ensures)
+    (c .before .before .before .before .before .before .before .before .before .before .put-answer .ensures))
     (c .before .before .before .before .before .before .put-hex-field .ensures))
     (c .before .before .put-byte .ensures)
 
 pub put-response-spec : {M : Type 1} → statement M
 put-response-spec =
     tie.close
-    (tie.spec put-answer-requires put-hex-field-requires put-byte-requires same-length returns)
+    (tie.spec
+    slice-aggregate-put-bytes
+    put-bytes-requires
+    put-answer-requires
+    put-hex-field-requires
+    put-byte-requires
+    same-length
+    returns)

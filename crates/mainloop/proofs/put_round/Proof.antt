@@ -2,7 +2,7 @@
 -- Assumes nothing.
 use Rattle.script.proofs.Texts.{wrote-more}
 use Rattle.listing.specs.Listing.{callText, line}
-use Rattle.mainloop.specs.Rounds.{roundText}
+use Rattle.mainloop.specs.Kept.{roundText}
 use borrow.Author.Needs.{needs}
 use Rattle.mainloop.proofs.put_round.Statement.{statement}
 use Rattle.mainloop.proofs.put_round.Tie as tie

@@ -7,7 +7,7 @@ use borrow.Author.Needs.{needs}
 use lib.ListN.{length}
 use denote.Ref.{now}
 use Rattle.script.proofs.Texts.{wrote-length, TextLeft, text-begun, text-next, text-done}
-use Rattle.mainloop.specs.Rounds.{roundsText}
+use Rattle.mainloop.specs.Kept.{roundsText}
 use Rattle.mainloop.proofs.RoundList.{one-round, no-round}
 use Rattle.mainloop.proofs.put_rounds.Statement.{statement}
 use Rattle.mainloop.proofs.put_rounds.Tie as tie

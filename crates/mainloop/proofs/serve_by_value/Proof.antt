@@ -5,7 +5,7 @@ use Prim.Native.Nat.{_+_, _-_, _≤_}
 use native.Mathlib.Nat.{sub-zero}
 use native.Mathlib.Omega.{arith}
 use borrow.Author.Needs.{needs}
-use Rattle.mainloop.specs.Rounds.{servedFrom}
+use Rattle.mainloop.specs.Kept.{servedFrom}
 use Rattle.mainloop.proofs.RoundList.{round-made, rounds-next, rounds-end}
 use Rattle.mainloop.proofs.serve_by_value.Statement.{statement}
 use Rattle.mainloop.proofs.serve_by_value.Tie as tie

@@ -24,7 +24,7 @@ use ghost.Atoms.{Atoms}
 use contract.Monad.{Fun}
 use contract.Running.{givenOf, tables, tablesOf}
 use types.Kit.{Given, Item, ‵, _⊛_, ⋆, runs, anyQ, atRet, Sq, _$_, _∵_, !, qed, by, move, drop, join, fsplit, fjoin, suffices, frame, done}
-use types.Run.{look, store, init, forget, stop, from, load, lit, bin, addr, of-opd, and-then, no-more, assigns, assigns-last, first, skips, jumps, land, blocks, branches, returns, enter, alloc1, alloc0, params1, pass1, pass0, free1, free0, exec, Below, again, loops}
+use types.Run.{look, store, init, forget, stop, from, load, lit, bin, addr, of-opd, and-then, no-more, assigns, assigns-last, first, skips, jumps, blocks, branches, returns, enter, alloc1, alloc0, params1, pass1, pass0, free1, free0, exec, Below, again, loops}
 use sound.WpLaws.{FmC, fmOf, WpFn-mono}
 use denote.RattleType.{owns}
 use denote.Laws.{Is}
@@ -50,7 +50,8 @@ use Rattle.hub.specs.declared.Hub.{Hub}
 use Rattle.hub.specs.Hub.{feedHub, closeHub}
 use Rattle.mainloop.specs.declared.Answers.{Answers}
 use Rattle.mainloop.specs.declared.Served.{Served}
-use Rattle.mainloop.specs.Rounds.{feedTicket, closeTicket, keep, servedFrom}
+use Rattle.mainloop.specs.Rounds.{feedTicket, closeTicket}
+use Rattle.mainloop.specs.Kept.{keep, servedFrom}
 use Rattle.calls.proofs.Answer as S
 use Rattle.calls.proofs.Answer.Laws as S′
 use Rattle.hub.proofs.Hub as T

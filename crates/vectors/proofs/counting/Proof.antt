@@ -6,8 +6,8 @@ use native.Mathlib.Omega.{arith}
 use borrow.Author.Needs.{needs}
 use lib.ListN.{length, take, length-set, length-replicate}
 use lib.Seq.{take-all}
-use Rattle.vectors.specs.Text.{countingFrom}
-use Rattle.vectors.proofs.Text.{counted-next}
+use Rattle.vectors.specs.Messages.{countingFrom}
+use Rattle.vectors.proofs.Messages.{counted-next}
 use Rattle.vectors.proofs.counting.Statement.{statement}
 use Rattle.vectors.proofs.counting.Tie as tie
 

@@ -4,7 +4,7 @@ use Prim.Native.Nat.{_-_}
 use native.Mathlib.Omega.{arith}
 use borrow.Author.Tests.{lt-ltb, le-ltb}
 use Rattle.word.proofs.Lists.{getD-past}
-use Rattle.vectors.specs.Text.{longer, lengthOf}
+use Rattle.vectors.specs.Messages.{longer, lengthOf}
 use borrow.Author.Needs.{needs}
 use Rattle.vectors.proofs.nth_length.Statement.{statement}
 use Rattle.vectors.proofs.nth_length.Tie as tie

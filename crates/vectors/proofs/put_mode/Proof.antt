@@ -7,9 +7,9 @@ use denote.Ref.{now}
 use borrow.Author.Needs.{needs}
 use Rattle.script.specs.Text.{Wrote}
 use Rattle.script.proofs.Texts.{wrote-length, wrote-more}
-use Rattle.vectors.specs.Text.{lengthOf}
+use Rattle.vectors.specs.Messages.{lengthOf}
 use Rattle.vectors.specs.Lines.{lines, modeLine, modeSection}
-use Rattle.vectors.proofs.Text.{length-most}
+use Rattle.vectors.proofs.Messages.{length-most}
 use Rattle.vectors.proofs.Lines.{wrote-no-line, wrote-next}
 use Rattle.vectors.proofs.put_mode.Statement.{statement}
 use Rattle.vectors.proofs.put_mode.Tie as tie

@@ -1,10 +1,10 @@
--- `listing::put_named` meets its contract.
+-- `listing::put_numbered` meets its contract.
 -- Assumes nothing.
 use borrow.Author.Needs.{needs}
 use Rattle.script.proofs.Texts.{wrote-more}
-use Rattle.listing.specs.Listing.{named}
-use Rattle.listing.proofs.put_named.Statement.{statement}
-use Rattle.listing.proofs.put_named.Tie as tie
+use Rattle.listing.specs.Listing.{numbered}
+use Rattle.listing.proofs.put_numbered.Statement.{statement}
+use Rattle.listing.proofs.put_numbered.Tie as tie
 
 put-bytes-requires : tie.Need-put-bytes-requires
 put-bytes-requires c κs = search needs
@@ -16,10 +16,10 @@ same-length : tie.Need-same-length
 same-length c = search needs
 
 returns : tie.Need-returns
-unfolding named
+unfolding numbered
 returns c =
     wrote-more (c .before .before .before .before .before .before .put-bytes .ensures)
     (c .before .before .put-number .ensures)
 
-pub put-named-spec : {M : Type 1} → statement M
-put-named-spec = tie.close (tie.spec put-bytes-requires put-number-requires same-length returns)
+pub put-numbered-spec : {M : Type 1} → statement M
+put-numbered-spec = tie.close (tie.spec put-bytes-requires put-number-requires same-length returns)

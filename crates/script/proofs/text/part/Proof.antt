@@ -1,10 +1,10 @@
--- `script::input::part` meets its contract.
+-- `script::text::part` meets its contract.
 -- Assumes nothing.
 use borrow.Author.Needs.{needs}
 use denote.Ref.{now}
 use Rattle.script.proofs.Texts.{cut-none, cut-all, cut-some}
-use Rattle.script.proofs.input.part.Statement.{statement}
-use Rattle.script.proofs.input.part.Tie as tie
+use Rattle.script.proofs.text.part.Statement.{statement}
+use Rattle.script.proofs.text.part.Tie as tie
 
 sub-result : tie.Need-sub-result
 sub-result c = search needs
@@ -31,7 +31,7 @@ part-result-end-2 : tie.Need-part-result-end-2
 part-result-end-2 c = search needs
 
 returns-2 : tie.Need-returns-2
-returns-2 c = let a = c .before .before .before .args in cut-all (now (a .chunk)) (a .at) (a .most) (c .before .if2 .taken)
+returns-2 c = let a = c .before .before .before .args in cut-all (now (a .s)) (a .at) (a .most) (c .before .if2 .taken)
 
 add-end : tie.Need-add-end
 add-end c = search needs
@@ -46,7 +46,7 @@ part-result-end-3 : tie.Need-part-result-end-3
 part-result-end-3 c = search needs
 
 returns-3 : tie.Need-returns-3
-returns-3 c = let a = c .before .before .before .args in cut-some (now (a .chunk)) (a .at) (a .most)
+returns-3 c = let a = c .before .before .before .args in cut-some (now (a .s)) (a .at) (a .most)
 
 pub part-spec : {M : Type 1} → statement M
 part-spec =

@@ -12,7 +12,7 @@ use lib.Dec.{ltb, lit<}
 use lib.ListN.{length, getD, set, take}
 use lib.Seq.{take-suc-set}
 use Rattle.word.proofs.Bits.{below-at}
-use Rattle.vectors.specs.Text.{countingFrom, longer, lengthOf}
+use Rattle.vectors.specs.Messages.{countingFrom, longer, lengthOf}
 
 -- ---- counting
 
