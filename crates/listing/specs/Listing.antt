@@ -39,9 +39,11 @@ callText (Check ticket tag) = threeFields (text "check") ticket tag
 callText (Close ticket) = threeFields (text "close") ticket []
 callText Sum = threeFields (text "sum") 0 []
 
+-- a verdict as a digit
 abbrev pub bit : Bool → ℕ
 bit b = cond b 1 0
 
+-- every field of an answer, after its name
 unfoldable pub answerText : Answer → List ℕ
 answerText a =
     numbered (text " refusal") (a .refusal) ++ numbered (text " ticket") (a .ticket) ++ numbered (text " runs") (a .runs) ++ numbered (text " passed") (bit (a .passed)) ++
@@ -51,11 +53,13 @@ answerText a =
 unfoldable pub responseText : Response → List ℕ
 responseText r = text " =" ++ answerText (r .answer) ++ bytesField (r .buffer) ++ (newline ∷ [])
 
+-- a call and what it gave
 unfoldable pub line : Event → List ℕ
 line e = callText (e .call) ++ responseText (e .response)
 
 -- ---- a list
 
+-- a line for each call of a list
 unfoldable pub lines : List Event → List ℕ
 lines [] = []
 lines (e ∷ es) = line e ++ lines es

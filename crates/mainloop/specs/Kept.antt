@@ -20,6 +20,7 @@ use Rattle.mainloop.specs.Rounds.{feedTicket, closeTicket, rounds}
 unfoldable pub keep : ℕ → Answer → Answer → Answers → Answers
 keep i fed closed a = record { kept = cond (ltb i rounds) (sets (a .kept) (2 * i) (fed ∷ closed ∷ [])) (a .kept) }
 
+-- what round i makes of the hub and of what is kept
 unfoldable pub roundOn : ℕ → List ℕ → Served → Served
 roundOn i bytes s =
     let fed : Step Hub = feedHub (feedTicket i) bytes (s .hub) in

@@ -45,9 +45,11 @@ drawsFrom t (suc n) = Draw t lentOut 0 16 ∷ drawsFrom (suc t) n
 unfoldable pub ending : List ℕ → List Call
 ending key = replicate 8 (Open 1 key) ++ drawsFrom 1 25 ++ (Sum ∷ [])
 
+-- a message of a few bytes is fed by all rounds, and then another by as many
 unfoldable pub allCalls : List ℕ → List ℕ → List ℕ → List Call
 allCalls key few message = opening key ++ roundsFrom 0 rounds few ++ roundsFrom 0 rounds message ++ ending key
 
+-- their list, from an empty hub
 unfoldable pub listText : List ℕ → List ℕ → List ℕ → List ℕ
 listText key few message = text "empty\n" ++ lines (events onHub emptyHub (allCalls key few message))
 

@@ -41,7 +41,7 @@ fn close_ticket(i: usize) -> u32
     (i / 16 * 3 % 13) as u32
 }
 
-// Those of round i. There is room for so many rounds; of a later one nothing is kept.
+// The answers of round i are kept. There is room for all rounds; of a later one nothing is kept.
 fn keep(answers: Answers, i: usize, fed: Answer, closed: Answer) -> Answers
     ensures { λ r. ⌜ r ≡ kept.keep i fed closed answers ⌝ }
 {
@@ -53,6 +53,7 @@ fn keep(answers: Answers, i: usize, fed: Answer, closed: Answer) -> Answers
     Answers { kept: kept }
 }
 
+// Made by a call, since the loop that lends its hub is proved by hand.
 fn after_rounds(hub: Hub, answers: Answers) -> Served
     ensures { λ r. ⌜ r ≡ record { hub = hub; answers = answers } ⌝ }
 {
@@ -95,6 +96,7 @@ fn serve_in_place(hub: Hub, answers: Answers, bytes: &[u8], rounds: usize) -> Se
     after_rounds(held, kept)
 }
 
+// All rounds, in one of the two ways.
 fn serve(hub: Hub, answers: Answers, bytes: &[u8], in_place: bool) -> Served
     ensures { λ r. ⌜ r ≡ kept.servedFrom 0 spec.rounds (now (bytes .entry)) (record { hub = hub; answers = answers }) ⌝ }
 {
@@ -104,7 +106,7 @@ fn serve(hub: Hub, answers: Answers, bytes: &[u8], in_place: bool) -> Served
     serve_by_value(hub, answers, bytes, ROUNDS)
 }
 
-// ---- the list of all calls. Each function takes the place to write at; the text has room there, or is at its end.
+// ---- the list of all calls. Each function takes the place to write at, which is in the buffer or at its end.
 
 fn put_round(
     text: &mut [u8],
