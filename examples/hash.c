@@ -1,4 +1,8 @@
-/* Hashes a message, and judges a tag. */
+/* Hashes a message, and judges a tag.
+ *
+ *     rt staticlib testbench
+ *     cc -Iinclude -o target/hash examples/hash.c target/staticlib/libtestbench.a && target/hash
+ */
 #include "testbench.h"
 
 #include <stdio.h>

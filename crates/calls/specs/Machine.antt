@@ -1,5 +1,5 @@
 -- Document 01's plain machine: it is fed the calls' arguments and nothing else, and knows no words and no hub. Its output and its run counts are the papers'
--- one-shot function and document 01's formula.
+-- one-shot function (sponge/specs/Sponge.antt) and document 01's formula.
 -- Assumes nothing.
 use mathlib.Core.Bool.{Bool, true, false, cond}
 use mathlib.Core.List.{List, [], _∷_, _++_}

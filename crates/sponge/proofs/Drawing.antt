@@ -1,5 +1,5 @@
--- Drawing byte by byte gives the paper's squeezed blocks, cut to the bytes asked for, with the run count. One argument for every mode: any row whose draw
--- rate is not 0.
+-- Drawing byte by byte gives the squeezed blocks of specs/Sponge.antt, cut to the bytes asked for, with the run count. One argument for every mode: any row whose
+-- draw rate is not 0.
 -- Assumes nothing.
 use mathlib.Core.Bool.{Bool, true, false, not, _&&_}
 use mathlib.Core.Path.{_≡_, refl, sym, ap, _∙_}
@@ -158,7 +158,7 @@ module _ (w : Row) (pos : 0 < w .drawRate) where
   drawnBytes-values zero d r = refl
   drawnBytes-values (suc k) d r = rw (ready-after d r) (rw (rw (suc-less d) at (drawnBytes-values k (suc d) r)))
 
-  -- ---- the paper's blocks
+  -- ---- the squeezed blocks
 
   -- the first block of the output stands in the state, and the later ones in the states after a run
   first-block : (s : List ℕ) (j : ℕ) → j < w .drawRate → outputByte w s j ≡ byteAt s j
@@ -183,14 +183,14 @@ module _ (w : Row) (pos : 0 < w .drawRate) where
       let e : suc k * w .drawRate ≡ w .drawRate + k * w .drawRate = omega arith in
       rw (e, values-add (outputByte w s) 0 (w .drawRate) (k * w .drawRate), first, squeezeBlocks-values k (run s), ← later, zero-add, add-zero)
 
-  -- the paper's first d bytes
+  -- the first d bytes of the output
   pub squeezeBytes-values : (d : ℕ) (s : List ℕ) → squeezeBytes w d s ≡ valuesFrom (outputByte w s) 0 d
   unfolding squeezeBytes ceiling
   squeezeBytes-values d s =
       rw squeezeBlocks-values
       (take-values _ 0 d (ceiling d (w .drawRate) * w .drawRate) (omega (arith, lt-div-mul-add {a = d + (w .drawRate - 1)} pos)))
 
-  -- so k bytes drawn, after d, are those of the paper's first d + k that follow the first d
+  -- so k bytes drawn, after d, are those of the output's first d + k that follow the first d
   pub drawnBytes-squeezed : (k d : ℕ) (r : Record) → drawnBytes w d k (afterRuns ((d - 1) / w .drawRate) r) ≡ drop d (squeezeBytes w (d + k) (r .words))
   drawnBytes-squeezed k d r = rw (drawnBytes-values k d r, squeezeBytes-values (d + k) (r .words)) (sym (drop-values _ d k))
 

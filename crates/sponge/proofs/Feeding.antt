@@ -1,5 +1,5 @@
--- Feeding byte by byte and ending is the paper's absorption of the padded message, block by block, with the run count. One argument for every mode: any row
--- whose feed rate is not 0.
+-- Feeding byte by byte and ending is the absorption of the padded message, block by block, as specs/Sponge.antt has it, with the run count. One argument for every
+-- mode: any row whose feed rate is not 0.
 -- Assumes nothing.
 use mathlib.Core.Bool.{Bool, true, false}
 use mathlib.Core.Path.{_≡_, refl, sym, ap, ap₂, _∙_}
@@ -121,7 +121,7 @@ module _ (w : Row) (pos : 0 < w .feedRate) where
   place : (n k : ℕ) → n % w .feedRate ≡ 0 → (n + k) % w .feedRate ≡ k % w .feedRate
   place n k e = rw (add-mod, e, zero-add, mod-mod)
 
-  -- the paper's state after a block and a message
+  -- the absorbed state after a block and a message
   absorb-block : (b m s : List ℕ) → length b ≡ w .feedRate → absorbMessage w (b ++ m) s ≡ absorbMessage w m (run (xorFrom 0 b s))
   unfolding absorbMessage absorbBlocks blocks cut
   absorb-block b m s h =
@@ -166,7 +166,7 @@ module _ (w : Row) (pos : 0 < w .feedRate) where
       (ap₂ (λ (s : List ℕ) (k : ℕ). withFeeding false (withCore s k r)) (sym (absorb-block b m (r .words) h))
       (rw (add-div-left (length m) pos) (sum64-sum64 (r .runs) 1 (length m / w .feedRate + 1) ∙ ap (sum64 (r .runs)) (omega arith))))
 
-  -- a whole message fed, and the end: the paper's words, and one run for each block of the padded message
+  -- a whole message fed, and the end: the absorbed words, and one run for each block of the padded message
   pub feeding-ended : (m : List ℕ) (r : Record)
       → endFeeding w (length m) (feedBytes w 0 m r)
       ≡ withFeeding false (withCore (absorbMessage w m (r .words)) (sum64 (r .runs) (length m / w .feedRate + 1)) r)

@@ -1,4 +1,4 @@
-//! The outside vectors, and the authors' own.
+//! The outside vectors, and those that Ascon's authors print.
 use crate::{sponge, Mode, HASH, MAC, PRF, XOF};
 
 /// The key of the vectors: 00 01 .. 0f.

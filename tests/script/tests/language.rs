@@ -3,7 +3,7 @@
 use reference::script::field;
 use script::{assert_prints, assert_talk, Talk, OPEN_MAC, OPEN_PRF};
 
-/// The authors' outputs for no bytes: the MAC under the key 00 01 .. 0f, the hash, and the XOF.
+/// What Ascon's authors print for no bytes: the MAC under the key 00 01 .. 0f, the hash, and the XOF.
 const MAC: &str = "eb1af688825d66bf2d53e135f9323315";
 const HASH: &str = "7346bc14f036e87ae03d0997913088f5f68411434b3cf8b54fa796a80d251f91";
 const XOF: &str = "5d4cbde6350ea4c174bd65b5b332f8408f99740b81aa02735eaefbcf0ba0339e";

@@ -15,7 +15,7 @@ use borrow.Author.Needs.{needs}
 use Rattle.testbench.proofs.testbench_tag.Statement.{statement}
 use Rattle.testbench.proofs.testbench_tag.Tie as tie
 
--- the verdict, by the paper's MAC
+-- the verdict, by the one-shot MAC
 judged : (key message tag : List ℕ) → tagMatches tag (finished (absorbed message (fresh 1 Mac key)))
     ≡ same tag (take (length tag) (oneShot (row Mac) key message 16))
 unfolding tagMatches row
@@ -33,7 +33,7 @@ finish-requires c κs = search needs
 tag-matches-requires : tie.Need-tag-matches-requires
 tag-matches-requires c κs = search needs
 
--- the verdict is the paper's
+-- the verdict is that of the one-shot MAC
 verdict : (c : tie.After-tag-matches) → c .tag-matches .result
     ≡ same (c .before .before .before .before .before .before .before .args .tag .now)
     (take (length (c .before .before .before .before .before .before .before .args .tag .now))
