@@ -6,9 +6,10 @@
 
 static inline uint64_t rotate(uint64_t x, int n) { return x >> n | x << (64 - n); }
 
-static inline void permute(uint64_t s[5]) {
+/* The last so many of the twelve rounds. Every caller hands in a literal, so that the compiler knows how many. */
+static inline void permute(uint64_t s[5], int rounds) {
     uint64_t x0 = s[0], x1 = s[1], x2 = s[2], x3 = s[3], x4 = s[4];
-    for (int i = 0; i < 12; i++) {
+    for (int i = 12 - rounds; i < 12; i++) {
         x2 ^= (uint64_t)(240 - 15 * i);
         x0 ^= x4;
         x4 ^= x3;
@@ -38,13 +39,18 @@ static inline void permute(uint64_t s[5]) {
 
 uint32_t plain_permute_row(uint64_t *row, size_t length) {
     if (length != 5) return 7;
-    permute(row);
+    permute(row, 12);
     return 0;
+}
+
+void plain_permute(uint64_t s[5], int rounds) {
+    if (rounds == 8) permute(s, 8);
+    else permute(s, 12);
 }
 
 uint64_t plain_permute_chain(uint64_t x0, uint64_t times) {
     uint64_t s[5] = {x0, 0, 0, 0, 0};
-    for (uint64_t i = 0; i < times; i++) permute(s);
+    for (uint64_t i = 0; i < times; i++) permute(s, 12);
     return s[0];
 }
 
@@ -61,35 +67,39 @@ static inline uint64_t load_last(const uint8_t *bytes, size_t n) {
     return x;
 }
 
-uint64_t plain_hash(const uint8_t *message, size_t length, uint8_t out[32]) {
-    uint64_t s[5] = {0x00400c0000000100u, 0, 0, 0, 0}, runs = 1;
-    permute(s);
+/* The first run and the last block's have twelve rounds, all others so many. */
+static inline uint64_t hash(uint64_t start, int rounds, const uint8_t *message, size_t length, uint8_t out[32]) {
+    uint64_t s[5] = {start, 0, 0, 0, 0}, runs = 1;
+    permute(s, 12);
     for (; length >= 8; message += 8, length -= 8, runs++) {
         s[0] ^= load(message);
-        permute(s);
+        permute(s, rounds);
     }
     s[0] ^= load_last(message, length);
-    permute(s);
+    permute(s, 12);
     store(out, s[0]);
     for (int i = 1; i < 4; i++) {
-        permute(s);
+        permute(s, rounds);
         store(out + 8 * i, s[0]);
     }
     return runs + 4;
 }
 
+uint64_t plain_hash(const uint8_t *message, size_t length, uint8_t out[32]) { return hash(0x00400c0000000100u, 12, message, length, out); }
+uint64_t plain_hasha(const uint8_t *message, size_t length, uint8_t out[32]) { return hash(0x00400c0400000100u, 8, message, length, out); }
+
 uint64_t plain_mac(const uint8_t key[16], const uint8_t *message, size_t length, uint8_t out[16]) {
     uint64_t s[5] = {0x80808c0000000080u, load(key), load(key + 8), 0, 0}, runs = 1;
-    permute(s);
+    permute(s, 12);
     for (; length >= 32; message += 32, length -= 32, runs++) {
         for (int j = 0; j < 4; j++) s[j] ^= load(message + 8 * j);
-        permute(s);
+        permute(s, 12);
     }
     size_t j = 0;
     for (; length >= 8; message += 8, length -= 8) s[j++] ^= load(message);
     s[j] ^= load_last(message, length);
     s[4] ^= 1;
-    permute(s);
+    permute(s, 12);
     store(out, s[0]);
     store(out + 8, s[1]);
     return runs + 1;
@@ -128,7 +138,7 @@ uint32_t plain_prf_short(const uint8_t *key, size_t key_length, const uint8_t *m
     if (length < 1 || length > 16 || out_length != length) return 6;
     load_short(message, message_length, m);
     uint64_t s[5] = {(uint64_t)0x80 << 56 | (uint64_t)message_length << 51 | (uint64_t)0x4c << 40 | (uint64_t)length << 35, load(key), load(key + 8), m[0], m[1]};
-    permute(s);
+    permute(s, 12);
     store(last, s[3] ^ load(key));
     store(last + 8, s[4] ^ load(key + 8));
     for (size_t i = 0; i < length; i++) out[i] = last[16 - length + i];
@@ -156,7 +166,7 @@ struct answer {
 };
 
 static void run(struct record *r) {
-    permute(r->words);
+    permute(r->words, 12);
     r->runs++;
 }
 

@@ -9,18 +9,23 @@
 
 enum { TICKETS = 16, MOST_FED = 16777216, MOST_BYTES = 1024, MOST_LINES = 1000000, LONGEST_LINE = 2100, LONGEST_ANSWER = 2100, BUFFER = 65536 };
 
-/* The four modes, by number; number 0 is none. */
+/* The six modes, by number; number 0 is none. A run has `rounds` rounds, but the first and the last block's have all twelve. */
 struct mode {
     uint32_t feed_rate, draw_rate, key, most_drawn;
     uint64_t start;
+    int rounds;
 };
 
-static const struct mode modes[5] = {
-    {0, 0, 0, 0, 0},
-    {32, 16, 16, 1048576, 0x80808c0000000000u},
-    {32, 16, 16, 16, 0x80808c0000000080u},
-    {8, 8, 0, 32, 0x00400c0000000100u},
-    {8, 8, 0, 1048576, 0x00400c0000000000u},
+enum { MODES = 6, ALL = 12 };
+
+static const struct mode modes[MODES + 1] = {
+    {0, 0, 0, 0, 0, 0},
+    {32, 16, 16, 1048576, 0x80808c0000000000u, 12},
+    {32, 16, 16, 16, 0x80808c0000000080u, 12},
+    {8, 8, 0, 32, 0x00400c0000000100u, 12},
+    {8, 8, 0, 1048576, 0x00400c0000000000u, 12},
+    {8, 8, 0, 32, 0x00400c0400000100u, 8},
+    {8, 8, 0, 1048576, 0x00400c0400000000u, 8},
 };
 
 /* A free place has ticket 0. */
@@ -87,8 +92,8 @@ static void print(struct answer answer) {
     put("\n", 1);
 }
 
-static void run(struct record *r) {
-    plain_permute_row(r->words, 5);
+static void run(struct record *r, int rounds) {
+    plain_permute(r->words, rounds);
     r->runs++;
 }
 
@@ -96,16 +101,17 @@ static void xor_byte(struct record *r, uint32_t at, uint8_t byte) { r->words[at 
 
 static void feed(struct record *r, size_t count) {
     uint32_t rate = modes[r->mode].feed_rate, at = r->fed % rate;
+    int rounds = modes[r->mode].rounds;
     size_t i = 0;
     r->fed += (uint32_t)count;
     while (i < count) {
         if (at == 0 && count - i >= rate) {
             for (uint32_t j = 0; j < rate / 8; j++, i += 8) r->words[j] ^= load(bytes + i);
-            run(r);
+            run(r, rounds);
         } else {
             xor_byte(r, at++, bytes[i++]);
             if (at == rate) {
-                run(r);
+                run(r, rounds);
                 at = 0;
             }
         }
@@ -117,7 +123,7 @@ static void end_feeding(struct record *r) {
     r->feeding = 0;
     xor_byte(r, r->fed % modes[r->mode].feed_rate, 0x80);
     if (modes[r->mode].key) r->words[4] ^= 1;
-    run(r);
+    run(r, ALL);
 }
 
 static uint8_t output_byte(const struct record *r, uint32_t at) { return (uint8_t)(r->words[at / 8] >> (56 - at % 8 * 8)); }
@@ -126,7 +132,7 @@ static void draw(struct record *r, size_t count) {
     uint32_t rate = modes[r->mode].draw_rate;
     for (size_t i = 0; i < count; i++, r->drawn++) {
         uint32_t at = r->drawn % rate;
-        if (at == 0 && r->drawn) run(r);
+        if (at == 0 && r->drawn) run(r, modes[r->mode].rounds);
         bytes[i] = output_byte(r, at);
     }
 }
@@ -149,7 +155,7 @@ static uint32_t find(uint32_t ticket, struct record **r) {
 /* The calls. */
 static struct answer call_open(uint32_t mode, size_t key) {
     struct record *r = hub.records;
-    if (mode < 1 || mode > 4) return no(1);
+    if (mode < 1 || mode > MODES) return no(1);
     if (key != modes[mode].key) return no(2);
     if (hub.issued == UINT32_MAX) return no(14);
     while (r < hub.records + TICKETS && r->ticket) r++;
@@ -159,7 +165,7 @@ static struct answer call_open(uint32_t mode, size_t key) {
         r->words[1] = load(bytes);
         r->words[2] = load(bytes + 8);
     }
-    run(r);
+    run(r, ALL);
     return ok(r->ticket);
 }
 

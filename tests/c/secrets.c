@@ -210,23 +210,34 @@ static void permuted_states(void) {
     }
 }
 
-/* The MAC (mode 2) or the hash (3) of n bytes, of which the first part had so many, and the runs made. */
-static void expect_output(uint32_t mode, size_t n, size_t first, uint8_t *out, uint64_t runs) {
-    uint8_t expected[32];
-    size_t t = mode == 2 ? 16 : 32;
-    expect(marked(&runs, sizeof runs, PUBLIC), mode == 2 ? "a MAC's runs depend on a secret" : "a hash's runs depend on a secret", n, first);
-    /* Of no bytes the hash, which takes no key, is public. */
-    expect(marked(out, t, mode == 3 && n == 0 ? PUBLIC : SECRET), mode == 2 ? "a MAC that does not depend on the secrets" : "a hash that does not depend on the secrets", n, first);
-    reveal(out, t);
-    uint64_t right = mode == 2 ? plain_mac(key, message, n, expected) : plain_hash(message, n, expected);
-    expect(runs == right && memcmp(out, expected, t) == 0, mode == 2 ? "MAC" : "hash", n, first);
+/* The modes whose outputs plain C gives whole. */
+enum { MAC = 2, HASH = 3, HASHA = 5 };
+static const uint32_t modes[] = {MAC, HASH, HASHA};
+enum { MODES = sizeof modes / sizeof *modes };
+
+static uint64_t plain_output(uint32_t mode, size_t n, uint8_t *out) {
+    if (mode == MAC) return plain_mac(key, message, n, out);
+    return mode == HASH ? plain_hash(message, n, out) : plain_hasha(message, n, out);
 }
 
-/* The hash and the MAC of a message in two parts, drawn in two. */
+/* The MAC or a hash of n bytes, of which the first part had so many, and the runs made. */
+static void expect_output(uint32_t mode, size_t n, size_t first, uint8_t *out, uint64_t runs) {
+    uint8_t expected[32];
+    size_t t = mode == MAC ? 16 : 32;
+    expect(marked(&runs, sizeof runs, PUBLIC), mode == MAC ? "a MAC's runs depend on a secret" : "a hash's runs depend on a secret", n, first);
+    /* Of no bytes a hash, which takes no key, is public. */
+    expect(marked(out, t, mode != MAC && n == 0 ? PUBLIC : SECRET), mode == MAC ? "a MAC that does not depend on the secrets" : "a hash that does not depend on the secrets", n, first);
+    reveal(out, t);
+    uint64_t right = plain_output(mode, n, expected);
+    expect(runs == right && memcmp(out, expected, t) == 0, mode == MAC ? "MAC" : mode == HASH ? "hash" : "hasha", n, first);
+}
+
+/* The MAC and both hashes of a message in two parts, drawn in two. */
 static void sponges(void) {
     for (size_t i = 0; i < BODIES; i++) {
-        for (uint32_t mode = 2; mode <= 3; mode++) {
-            size_t n = bodies[i], t = mode == 2 ? 16 : 32;
+        for (size_t j = 0; j < MODES; j++) {
+            uint32_t mode = modes[j];
+            size_t n = bodies[i], t = mode == MAC ? 16 : 32;
             uint8_t *k = secret(key, 16), *in = secret(message, n), *out = block(message, t);
             uint64_t runs = testbench_sponge(k, 16, in, n, out, t, mode, n / 3, t / 3);
             expect_output(mode, n, n / 3, out, runs);
@@ -253,7 +264,7 @@ static void feeds(void) {
 }
 
 static void fed_in_parts(uint32_t mode, size_t first, size_t second, size_t rest) {
-    size_t n = first + second + rest, t = mode == 2 ? 16 : 32, key_length = mode == 2 ? 16 : 0;
+    size_t n = first + second + rest, t = mode == MAC ? 16 : 32, key_length = mode == MAC ? 16 : 0;
     uint8_t *k = secret(key, key_length), *in = secret(message, n), *out = block(message, t);
     uint64_t runs = tested.parts(k, key_length, in, n, out, t, mode, first, second);
     expect_output(mode, n, first, out, runs);
@@ -262,13 +273,12 @@ static void fed_in_parts(uint32_t mode, size_t first, size_t second, size_t rest
     free(out);
 }
 
-/* The MAC and the hash of messages whose parts are short. */
+/* The MAC and both hashes of messages whose parts are short. */
 static void parts_in_place(void) {
     for (size_t first = 0; first <= 33; first++) {
         for (size_t second = 0; second <= 9; second++) {
             for (size_t rest = 0; rest <= 5; rest += 5) {
-                fed_in_parts(2, first, second, rest);
-                fed_in_parts(3, first, second, rest);
+                for (size_t i = 0; i < MODES; i++) fed_in_parts(modes[i], first, second, rest);
             }
         }
     }

@@ -41,19 +41,21 @@ script =
 abbrev opening : Table
 opening =
     -- a number that names no mode, with any key
-    (Open 0 [], refused 1) ∷ (Open 0 (zeros 16), refused 1) ∷ (Open 5 [], refused 1) ∷ (Open 5 (zeros 16), refused 1)
+    (Open 0 [], refused 1) ∷ (Open 0 (zeros 16), refused 1) ∷ (Open 7 [], refused 1) ∷ (Open 7 (zeros 16), refused 1)
     -- a key of 16 bytes for modes 1 and 2
     ∷ (Open 1 [], refused 2) ∷ (Open 1 (zeros 15), refused 2) ∷ (Open 1 (zeros 17), refused 2) ∷ (Open 1 (zeros 16), opened 1 1)
     ∷ (Open 2 [], refused 2) ∷ (Open 2 (zeros 15), refused 2) ∷ (Open 2 (zeros 17), refused 2) ∷ (Open 2 (zeros 16), opened 2 1)
-    -- and none for modes 3 and 4
+    -- and none for modes 3 to 6
     ∷ (Open 3 (zeros 1), refused 2) ∷ (Open 3 (zeros 16), refused 2) ∷ (Open 3 [], opened 3 1)
     ∷ (Open 4 (zeros 1), refused 2) ∷ (Open 4 (zeros 16), refused 2) ∷ (Open 4 [], opened 4 1)
+    ∷ (Open 5 (zeros 1), refused 2) ∷ (Open 5 (zeros 16), refused 2) ∷ (Open 5 [], opened 5 1)
+    ∷ (Open 6 (zeros 1), refused 2) ∷ (Open 6 (zeros 16), refused 2) ∷ (Open 6 [], opened 6 1)
     -- up to sixteen
-    ∷ (Open 3 [], opened 5 1) ∷ (Open 3 [], opened 6 1) ∷ (Open 3 [], opened 7 1) ∷ (Open 3 [], opened 8 1)
+    ∷ (Open 3 [], opened 7 1) ∷ (Open 3 [], opened 8 1)
     ∷ (Open 4 [], opened 9 1) ∷ (Open 4 [], opened 10 1) ∷ (Open 4 [], opened 11 1) ∷ (Open 4 [], opened 12 1)
     ∷ (Open 3 [], opened 13 1) ∷ (Open 3 [], opened 14 1) ∷ (Open 3 [], opened 15 1) ∷ (Open 3 [], opened 16 1)
     -- no seventeenth; 1 and 2 before 13
-    ∷ (Open 1 (zeros 16), refused 13) ∷ (Open 3 [], refused 13) ∷ (Open 5 [], refused 1) ∷ (Open 1 [], refused 2) ∷ (Open 3 (zeros 16), refused 2)
+    ∷ (Open 1 (zeros 16), refused 13) ∷ (Open 3 [], refused 13) ∷ (Open 7 [], refused 1) ∷ (Open 1 [], refused 2) ∷ (Open 3 (zeros 16), refused 2)
     -- a place serves again, a number does not
     ∷ (Close 5, counted 1) ∷ (Close 5, refused 12) ∷ (Open 4 [], opened 17 1) ∷ (Open 4 [], refused 13) ∷ (Close 5, refused 12) ∷ (Close 18, refused 11)
     ∷ (Close 17, counted 1) ∷ (Open 3 [], opened 18 1) ∷ (Close 18, counted 1) ∷ (Close 18, refused 12) ∷ (Sum, summed 18) ∷ []
@@ -73,7 +75,10 @@ feeding =
     ∷ (Draw 2 [] 0 1, refused 3) ∷ (Check 2 (zeros 16), refused 18) ∷ (Feed 2 [], counted 3)
     -- 12 before 15
     ∷ (Close 1, counted 3) ∷ (Feed 1 [], refused 12) ∷ (Close 1, refused 12) ∷ (Feed 2 [], counted 3) ∷ (Close 2, counted 3) ∷ (Feed 2 [], refused 12)
-    ∷ (Feed 3 [], refused 11) ∷ (Sum, summed 6) ∷ []
+    ∷ (Feed 3 [], refused 11)
+    -- a block of 8 in the lighter modes, whose run counts as one
+    ∷ (Open 5 [], opened 3 1) ∷ (Feed 3 (zeros 7), counted 1) ∷ (Feed 3 (zeros 9), counted 3)
+    ∷ (Open 6 [], opened 4 1) ∷ (Feed 4 (zeros 7), counted 1) ∷ (Feed 4 (zeros 9), counted 3) ∷ (Sum, summed 12) ∷ []
 
 abbrev drawing : Table
 drawing =
@@ -87,13 +92,15 @@ drawing =
     -- of a hash 32 bytes in all; 3 before 17
     ∷ (Draw 1 (zeros 40) 0 31, refused 17) ∷ (Draw 1 (zeros 40) 0 30, counted 5) ∷ (Draw 1 (zeros 40) 0 1, refused 17) ∷ (Draw 1 [] 0 0, counted 5)
     ∷ (Draw 1 [] 0 1, refused 3) ∷ (Open 3 [], opened 4 1) ∷ (Draw 4 (zeros 33) 0 33, refused 17) ∷ (Draw 4 (zeros 33) 1 32, counted 5)
+    ∷ (Open 5 [], opened 5 1) ∷ (Draw 5 (zeros 33) 0 33, refused 17) ∷ (Draw 5 (zeros 33) 1 32, counted 5) ∷ (Draw 5 (zeros 1) 0 1, refused 17)
     -- of a MAC 16; 31 bytes fed to it fill no block
     ∷ (Draw 2 (zeros 17) 0 17, refused 17) ∷ (Draw 2 (zeros 16) 0 17, refused 3) ∷ (Feed 2 (zeros 31), counted 1) ∷ (Draw 2 (zeros 17) 1 16, counted 2)
     ∷ (Draw 2 (zeros 1) 0 1, refused 17)
     -- no run is made until a byte beyond the block is drawn
     ∷ (Draw 3 (zeros 16) 0 16, counted 2) ∷ (Draw 3 (zeros 1) 0 1, counted 3)
+    ∷ (Open 6 [], opened 6 1) ∷ (Draw 6 (zeros 8) 0 8, counted 2) ∷ (Draw 6 (zeros 26) 0 25, counted 6)
     -- 12 before 3 and 17
-    ∷ (Close 1, counted 5) ∷ (Draw 1 [] 0 1, refused 12) ∷ (Draw 1 (zeros 1) 0 1, refused 12) ∷ (Sum, summed 15) ∷ []
+    ∷ (Close 1, counted 5) ∷ (Draw 1 [] 0 1, refused 12) ∷ (Draw 1 (zeros 1) 0 1, refused 12) ∷ (Sum, summed 26) ∷ []
 
 -- whether a tag is the MAC of 32 zeros under the key of zeros: left as it is, no run is computed
 abbrev verdict : List ℕ → Bool
@@ -102,11 +109,12 @@ verdict tag = same tag (oneShot (row Mac) (zeros 16) (zeros 32) (length tag))
 abbrev checking : Table
 checking =
     (Open 2 (zeros 16), opened 1 1) ∷ (Open 1 (zeros 16), opened 2 1) ∷ (Open 3 [], opened 3 1) ∷ (Open 4 [], opened 4 1)
+    ∷ (Open 5 [], opened 5 1) ∷ (Open 6 [], opened 6 1)
     -- 11 before 18 and 4
-    ∷ (Check 0 (zeros 7), refused 11) ∷ (Check 5 (zeros 7), refused 11)
+    ∷ (Check 0 (zeros 7), refused 11) ∷ (Check 7 (zeros 7), refused 11)
     -- only of mode 2; 18 before 4
     ∷ (Check 2 (zeros 16), refused 18) ∷ (Check 3 (zeros 16), refused 18) ∷ (Check 4 (zeros 16), refused 18) ∷ (Check 2 (zeros 7), refused 18)
-    ∷ (Check 3 (zeros 17), refused 18)
+    ∷ (Check 3 (zeros 17), refused 18) ∷ (Check 5 (zeros 16), refused 18) ∷ (Check 6 (zeros 16), refused 18)
     -- a tag of 8 to 16 bytes; 32 bytes fed are a block
     ∷ (Check 1 [], refused 4) ∷ (Check 1 (zeros 7), refused 4) ∷ (Check 1 (zeros 17), refused 4)
     ∷ (Feed 1 (zeros 31), counted 1) ∷ (Feed 1 (zeros 1), counted 2)
@@ -114,10 +122,10 @@ checking =
     -- an accepted check ends feeding, and draws nothing
     ∷ (Feed 1 [], refused 15) ∷ (Draw 1 (zeros 17) 0 17, refused 17) ∷ (Draw 1 (zeros 16) 0 16, counted 3)
     -- 12 before 18 and 4
-    ∷ (Close 1, counted 3) ∷ (Check 1 (zeros 7), refused 12) ∷ (Close 2, counted 1) ∷ (Check 2 (zeros 16), refused 12) ∷ (Sum, summed 6) ∷ []
+    ∷ (Close 1, counted 3) ∷ (Check 1 (zeros 7), refused 12) ∷ (Close 2, counted 1) ∷ (Check 2 (zeros 16), refused 12) ∷ (Sum, summed 8) ∷ []
 
 pub boundaries : Answered script × Answered opening × Answered feeding × Answered drawing × Answered checking
-unfolding events machine emptyMachine openMachine openChecks named row admit newEntry runsOf formula runsFeeding runsEnded ceiling start openCount total feedMachine drawMachine checkMachine closeMachine ticketChecks feedChecks feedOwn drawChecks drawOwn checkChecks checkOwn standingOf entryOf placeOf find afterFeed afterDraw afterClose put sumMachine outputOf
+unfolding events machine emptyMachine openMachine openChecks named admit newEntry runsOf formula runsFeeding runsEnded ceiling start openCount total feedMachine drawMachine checkMachine closeMachine ticketChecks feedChecks feedOwn drawChecks drawOwn checkChecks checkOwn standingOf entryOf placeOf find afterFeed afterDraw afterClose put sumMachine outputOf
 boundaries = (refl, refl, refl, refl, refl)
 
 -- each answer, field by field: what is not said is 0

@@ -34,13 +34,13 @@ abbrev other : List ℕ
 other = 0xeb ∷ 0x1a ∷ 0xf6 ∷ 0x88 ∷ 0x82 ∷ 0x5d ∷ 0x66 ∷ 0xbf ∷ 0x2d ∷ 0x53 ∷ 0xe1 ∷ 0x35 ∷ 0xf9 ∷ 0x32 ∷ 0x33 ∷ 0x14 ∷ []
 
 mac : macOf key [] ≡ tag
-unfolding row oneShot output squeezeBytes squeezeBlocks absorbMessage absorbBlocks flipIf blocks cut pad start initial fromBytes toBytes wordsOf zerosTo ceiling xorFrom xorAt xorWord bytesFrom byteAt weight permute round diffuse substitute atEveryPlace sbox addConstant mix rotr column number word bit
+unfolding oneShot output squeezeBytes squeezeBlocks absorbMessage absorbBlocks flipIf blocks cut pad start initial fromBytes toBytes wordsOf zerosTo ceiling xorFrom xorAt xorWord bytesFrom byteAt weight permute round diffuse substitute atEveryPlace sbox addConstant mix rotr column number word bit
 mac = refl
 
 -- a check passes for the tag, and for its first 8 bytes
 pub judging : map (λ (e : Event). e .response .answer) (events machine emptyMachine (Open 2 key ∷ Check 1 tag ∷ Check 1 other ∷ Check 1 (take 8 tag) ∷ []))
     ≡ opened 1 1 ∷ judged true 2 ∷ judged false 2 ∷ judged true 2 ∷ []
-unfolding events machine emptyMachine openMachine openChecks named row admit newEntry runsOf formula runsFeeding runsEnded ceiling start openCount total checkMachine ticketChecks checkChecks checkOwn standingOf entryOf placeOf find afterDraw put outputOf
+unfolding events machine emptyMachine openMachine openChecks named admit newEntry runsOf formula runsFeeding runsEnded ceiling start openCount total checkMachine ticketChecks checkChecks checkOwn standingOf entryOf placeOf find afterDraw put outputOf
 judging = λ i. opened 1 1 ∷ judged (right i) 2 ∷ judged (wrong i) 2 ∷ judged (short i) 2 ∷ []
   where
     right : same tag (macOf key []) ≡ true
@@ -56,5 +56,5 @@ judging = λ i. opened 1 1 ∷ judged (right i) 2 ∷ judged (wrong i) 2 ∷ jud
 pub drawn-bytes : map (λ (e : Event). e .response .buffer)
     (events machine emptyMachine (Open 2 key ∷ Draw 1 (1 ∷ 2 ∷ 3 ∷ 4 ∷ 5 ∷ []) 1 3 ∷ Draw 1 (1 ∷ 2 ∷ 3 ∷ []) 2 2 ∷ Draw 1 (1 ∷ 2 ∷ 3 ∷ []) 0 2 ∷ []))
     ≡ [] ∷ (1 ∷ 0xeb ∷ 0x1a ∷ 0xf6 ∷ 5 ∷ []) ∷ (1 ∷ 2 ∷ 3 ∷ []) ∷ (0x88 ∷ 0x82 ∷ 3 ∷ []) ∷ []
-unfolding events machine emptyMachine openMachine openChecks named row admit newEntry openCount total drawMachine ticketChecks drawChecks drawOwn standingOf entryOf placeOf find afterDraw put written outputOf oneShot output squeezeBytes squeezeBlocks absorbMessage absorbBlocks flipIf blocks cut pad start initial fromBytes toBytes wordsOf zerosTo ceiling xorFrom xorAt xorWord bytesFrom byteAt weight permute round diffuse substitute atEveryPlace sbox addConstant mix rotr column number word bit
+unfolding events machine emptyMachine openMachine openChecks named admit newEntry openCount total drawMachine ticketChecks drawChecks drawOwn standingOf entryOf placeOf find afterDraw put written outputOf oneShot output squeezeBytes squeezeBlocks absorbMessage absorbBlocks flipIf blocks cut pad start initial fromBytes toBytes wordsOf zerosTo ceiling xorFrom xorAt xorWord bytesFrom byteAt weight permute round diffuse substitute atEveryPlace sbox addConstant mix rotr column number word bit
 drawn-bytes = refl

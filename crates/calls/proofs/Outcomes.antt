@@ -10,11 +10,10 @@ use borrow.Author.Tests.{ltb-false, leb-false, not-false}
 use lib.Dec.{leb}
 use lib.ListN.{length, drop}
 use Rattle.mode.specs.declared.Mode.{Mode}
-use Rattle.mode.specs.declared.Mode.the-variants.{Prf, Mac, Hash, Xof}
 use Rattle.mode.specs.declared.Named.{Named}
 use Rattle.mode.specs.declared.Named.the-variants.{Is, NoMode}
-use Rattle.mode.specs.Mode.{row, numberOf, named, numberNamed, modeNumber}
-use Rattle.mode.proofs.Modes.{number-named}
+use Rattle.mode.specs.Mode.{row, numberOf, named}
+use Rattle.mode.proofs.Modes.{number-is}
 use Rattle.calls.specs.Answer.{opened, counted, judged}
 use Rattle.calls.specs.Call.{Call, Open, Feed, Draw, Check, Close, Sum, Step, step, refuse}
 use Rattle.checks.specs.Checks.{OneCheck, checked}
@@ -80,21 +79,6 @@ ticket-outcome : (c : Call) (t : ℕ) (buffer : List ℕ) (m : Machine) → Soun
 ticket-outcome c t buffer m s rest done numbers accepted =
     at-ticket (Outcome m c) t buffer m s rest done (refuses c buffer 11 (λ z. omega arith)) (refuses c buffer 12 (λ z. omega arith))
     (λ e o. checked-nonzero (Outcome m c) (rest (standingFor e)) (refuse m buffer) (done e) (numbers (standingFor e)) (refuses c buffer) (accepted e o))
-
--- the mode that a number names has that number
-number-is : (n : ℕ) (mode : Mode) → named n ≡ Is mode → numberOf mode ≡ n
-unfolding modeNumber
-number-is n mode h = go (leb n 4) (ap numberNamed (sym h) ∙ number-named n)
-  where
-    some : (mode : Mode) → 0 < numberOf mode
-    some Prf = omega arith
-    some Mac = omega arith
-    some Hash = omega arith
-    some Xof = omega arith
-
-    go : (b : Bool) → numberOf mode ≡ cond b n 0 → numberOf mode ≡ n
-    go true e = e
-    go false e = absurd (omega (arith, some mode))
 
 open-outcome : (n : ℕ) (key : List ℕ) (m : Machine) → Outcome m (Open n key) (openMachine n key m)
 unfolding openMachine openChecks admit

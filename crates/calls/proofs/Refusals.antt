@@ -11,10 +11,10 @@ use borrow.Author.Tests.{lt-ltb, le-ltb, le-leb, lt-leb, eq-eqb, ne-eqb}
 use lib.Dec.{leb}
 use lib.ListN.{length}
 use Rattle.mode.specs.declared.Mode.{Mode}
-use Rattle.mode.specs.declared.Mode.the-variants.{Prf, Mac, Hash, Xof}
+use Rattle.mode.specs.declared.Mode.the-variants.{Prf, Mac, Hash, Xof, HashA, XofA}
 use Rattle.mode.specs.declared.Named.the-variants.{Is, NoMode}
 use Rattle.mode.specs.Mode.{row, numberOf}
-use Rattle.mode.proofs.Modes.{named-number}
+use Rattle.mode.proofs.Modes.{named-number, same-number}
 use Rattle.calls.specs.Call.{refuse}
 use Rattle.checks.specs.Checks.{OneCheck, checked}
 use Rattle.calls.specs.Checks.{mostOpen, Standing, openChecks, ticketChecks, feedOwn, feedChecks, drawOwn, drawChecks, checkOwn, checkChecks}
@@ -27,13 +27,16 @@ most Prf = 1048576
 most Mac = 16
 most Hash = 32
 most Xof = 1048576
+most HashA = 32
+most XofA = 1048576
 
 most-drawn : (mode : Mode) → row mode .mostDrawn ≡ most mode
-unfolding row
 most-drawn Prf = refl
 most-drawn Mac = refl
 most-drawn Hash = refl
 most-drawn Xof = refl
+most-drawn HashA = refl
+most-drawn XofA = refl
 
 -- the standing of an open ticket
 abbrev pub openStanding : Mode → Bool → ℕ → ℕ → Standing
@@ -129,10 +132,7 @@ module _ {A : Type 0} (answer : ℕ → A) (done : A) where
   module _ (feeding : Bool) (fed drawn : ℕ) (tag : List ℕ) where
     pub check-18 : (mode : Mode) → mode ≢ Mac → outcome (checkChecks (openStanding mode feeding fed drawn) tag) ≡ answer 18
     unfolding checkChecks checkOwn ticketChecks
-    check-18 Prf other = refl
-    check-18 Mac other = absurd (other refl)
-    check-18 Hash other = refl
-    check-18 Xof other = refl
+    check-18 mode other = rw (ne-eqb (numberOf mode) 2 (λ e. other (same-number mode Mac e)))
 
     pub check-4-short : length tag < 8 → outcome (checkChecks (openStanding Mac feeding fed drawn) tag) ≡ answer 4
     unfolding checkChecks checkOwn ticketChecks

@@ -11,10 +11,9 @@ use borrow.Author.Tests.{eqb-true, eqb-false}
 use lib.Dec.{eqb}
 use lib.ListN.{length, length-set, length-append}
 use Rattle.mode.specs.declared.Mode.{Mode}
-use Rattle.mode.specs.declared.Mode.the-variants.{Prf, Mac, Hash, Xof}
 use Rattle.mode.specs.Mode.{row}
 use Rattle.sponge.specs.Sponge.{start, runsFeeding, runsEnded}
-use Rattle.mode.proofs.Modes.{rates}
+use Rattle.mode.proofs.Modes.{rates, limits}
 use Rattle.sponge.proofs.Drawing.{blocks-drawn}
 use Rattle.calls.specs.Call.{Call, Step, refuse, final}
 use Rattle.checks.specs.Checks.{OneCheck, checked}
@@ -28,14 +27,6 @@ use Rattle.calls.proofs.Outcomes.{OpenTicket, at-ticket, Outcome, refus
 
 -- ---- run counts
 
--- the most that any mode draws
-pub draws-few : (mode : Mode) → row mode .mostDrawn ≤ 1048576
-unfolding row
-draws-few Prf = omega arith
-draws-few Mac = omega arith
-draws-few Hash = omega arith
-draws-few Xof = omega arith
-
 -- no run count comes near 64 bits
 pub bounded : (e : Entry) → Good e → runsOf e ≤ mostRuns
 unfolding runsOf formula runsFeeding runsEnded start
@@ -48,7 +39,7 @@ bounded e g = go (e .feeding)
     go true = omega (arith, g .roomy, fed)
     go false =
         rw (blocks-drawn (row (e .mode)) (rates (e .mode) .draws) (e .drawn))
-        (omega (arith, g .roomy, g .within, draws-few (e .mode), fed, div-le-self (e .drawn - 1) (row (e .mode) .drawRate)))
+        (omega (arith, g .roomy, g .within, limits (e .mode) .drawn, fed, div-le-self (e .drawn - 1) (row (e .mode) .drawRate)))
 
 -- ---- entries as calls leave them
 

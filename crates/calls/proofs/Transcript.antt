@@ -23,7 +23,7 @@ key = 0 ∷ 1 ∷ 2 ∷ 3 ∷ 4 ∷ 5 ∷ 6 ∷ 7 ∷ 8 ∷ 9 ∷ 10 ∷ 11 ∷ 
 
 abbrev calls : List Call
 calls =
-    Feed 1 (9 ∷ []) ∷ Open 5 [] ∷ Open 3 [] ∷ Sum ∷ Open 2 key
+    Feed 1 (9 ∷ []) ∷ Open 7 [] ∷ Open 3 [] ∷ Sum ∷ Open 2 key
     ∷ Feed 1 (1 ∷ 2 ∷ 3 ∷ 4 ∷ 5 ∷ 6 ∷ 7 ∷ []) ∷ Draw 2 (0 ∷ []) 1 1 ∷ Feed 1 (8 ∷ 9 ∷ [])
     ∷ Draw 2 (7 ∷ 7 ∷ 7 ∷ 7 ∷ []) 1 2 ∷ Feed 2 [] ∷ Draw 2 (7 ∷ 7 ∷ []) 0 1 ∷ Close 1 ∷ Feed 1 (5 ∷ [])
     ∷ Open 2 key ∷ Check 3 (1 ∷ 2 ∷ 3 ∷ 4 ∷ 5 ∷ 6 ∷ 7 ∷ 8 ∷ []) ∷ Sum ∷ []
@@ -33,7 +33,7 @@ list = events machine emptyMachine calls
 
 -- the tickets that were given
 pub tickets-read : tickets list ≡ 1 ∷ 2 ∷ 3 ∷ []
-unfolding tickets events machine emptyMachine openMachine openChecks named row admit newEntry runsOf formula runsFeeding runsEnded ceiling start openCount total feedMachine drawMachine checkMachine closeMachine ticketChecks feedChecks feedOwn drawChecks drawOwn checkChecks checkOwn standingOf entryOf placeOf find afterFeed afterDraw afterClose put sumMachine
+unfolding tickets events machine emptyMachine openMachine openChecks named admit newEntry runsOf formula runsFeeding runsEnded ceiling start openCount total feedMachine drawMachine checkMachine closeMachine ticketChecks feedChecks feedOwn drawChecks drawOwn checkChecks checkOwn standingOf entryOf placeOf find afterFeed afterDraw afterClose put sumMachine
 tickets-read = refl
 
 -- of each ticket: what its open named, the bytes fed, whether feeding lasts, the run count, the bytes drawn
@@ -43,7 +43,7 @@ pub ticket-read :
     × (feedingLasts 1 list ≡ true) × (feedingLasts 2 list ≡ false) × (feedingLasts 3 list ≡ false)
     × (runCount 1 list ≡ 2) × (runCount 2 list ≡ 2) × (runCount 3 list ≡ 2) × (runCount 4 list ≡ 0)
     × (bytesDrawn 1 list ≡ []) × (bytesDrawn 2 list ≡ 0xeb ∷ 0x1a ∷ 0xf6 ∷ [])
-unfolding issueOf bytesFed bytesDrawn feedingLasts lastRuns runCount events machine emptyMachine openMachine openChecks named row admit newEntry runsOf formula runsFeeding runsEnded ceiling start openCount total feedMachine drawMachine checkMachine closeMachine ticketChecks feedChecks feedOwn drawChecks drawOwn checkChecks checkOwn standingOf entryOf placeOf find afterFeed afterDraw afterClose put sumMachine written outputOf oneShot output squeezeBytes squeezeBlocks absorbMessage absorbBlocks flipIf blocks cut pad initial fromBytes toBytes wordsOf zerosTo xorFrom xorAt xorWord bytesFrom byteAt weight permute round diffuse substitute atEveryPlace sbox addConstant mix rotr column number word bit
+unfolding issueOf bytesFed bytesDrawn feedingLasts lastRuns runCount events machine emptyMachine openMachine openChecks named admit newEntry runsOf formula runsFeeding runsEnded ceiling start openCount total feedMachine drawMachine checkMachine closeMachine ticketChecks feedChecks feedOwn drawChecks drawOwn checkChecks checkOwn standingOf entryOf placeOf find afterFeed afterDraw afterClose put sumMachine written outputOf oneShot output squeezeBytes squeezeBlocks absorbMessage absorbBlocks flipIf blocks cut pad initial fromBytes toBytes wordsOf zerosTo xorFrom xorAt xorWord bytesFrom byteAt weight permute round diffuse substitute atEveryPlace sbox addConstant mix rotr column number word bit
 ticket-read = (refl, refl, refl, refl, refl, refl, refl, refl, refl, refl, refl, refl, refl, refl, refl, refl)
 
 -- the calls that name ticket 1 once it is issued, refused ones included
@@ -51,5 +51,5 @@ pub named-read : (callsOf (naming 1 (afterIssue 1 list))
     ≡ Feed 1 (1 ∷ 2 ∷ 3 ∷ 4 ∷ 5 ∷ 6 ∷ 7 ∷ []) ∷ Feed 1 (8 ∷ 9 ∷ []) ∷ Close 1 ∷ Feed 1 (5 ∷ []) ∷ [])
     × (map (λ (e : Event). e .response .answer) (naming 1 (afterIssue 1 list)) ≡ counted 1 ∷ counted 2 ∷ counted 2 ∷ refused 12 ∷ [])
     × (callsOf (naming 3 (afterIssue 3 list)) ≡ Check 3 (1 ∷ 2 ∷ 3 ∷ 4 ∷ 5 ∷ 6 ∷ 7 ∷ 8 ∷ []) ∷ [])
-unfolding naming afterIssue callsOf events machine emptyMachine openMachine openChecks named row admit newEntry runsOf formula runsFeeding runsEnded ceiling start openCount total feedMachine drawMachine checkMachine closeMachine ticketChecks feedChecks feedOwn drawChecks drawOwn checkChecks checkOwn standingOf entryOf placeOf find afterFeed afterDraw afterClose put sumMachine
+unfolding naming afterIssue callsOf events machine emptyMachine openMachine openChecks named admit newEntry runsOf formula runsFeeding runsEnded ceiling start openCount total feedMachine drawMachine checkMachine closeMachine ticketChecks feedChecks feedOwn drawChecks drawOwn checkChecks checkOwn standingOf entryOf placeOf find afterFeed afterDraw afterClose put sumMachine
 named-read = (refl, refl, refl)

@@ -35,7 +35,7 @@ longestTag = 16
 
 -- ---- open: 1, 2, 14, 13
 
--- a number that is not 1 to 4 names no mode
+-- a number that is not 1 to 6 names no mode
 abbrev pub namesNone : Named → Bool
 namesNone (Is mode) = false
 namesNone NoMode = true

@@ -11,7 +11,7 @@ use Rattle.calls.specs.Machine.{formula}
 use Rattle.checked_examples.specs.Examples.{TwelveExamples}
 
 pub examples : TwelveExamples
-unfolding bit word number column rotr fromBytes addConstant sbox atEveryPlace substitute mix diffuse round permute row ceiling initial toBytes wordsOf zerosTo start pad cut blocks runsEnded startValue formula
+unfolding bit word number column rotr fromBytes addConstant sbox atEveryPlace substitute mix diffuse round permute ceiling initial toBytes wordsOf zerosTo start pad cut blocks runsEnded startValue formula
 examples =
     record {
       sbox-first = refl;

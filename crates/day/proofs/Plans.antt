@@ -64,13 +64,13 @@ as-planned {c} {d} {h} {first} {last} {at} {r} e l = subst (λ (x : Call). Lists
 -- ---- which turn it is
 
 module _ (i : ℕ) where
-  pub opens-keyed : i < 16 → i % 4 < 2 → turnAt i ≡ planned.Open (i % 4 + 1) i 16
+  pub opens-keyed : i < 16 → i % 6 < 2 → turnAt i ≡ planned.Open (i % 6 + 1) i 16
   unfolding turnAt
-  opens-keyed h k = rw (lt-ltb i 16 h, lt-ltb (i % 4) 2 k)
+  opens-keyed h k = rw (lt-ltb i 16 h, lt-ltb (i % 6) 2 k)
 
-  pub opens-unkeyed : i < 16 → 2 ≤ i % 4 → turnAt i ≡ planned.Open (i % 4 + 1) i 0
+  pub opens-unkeyed : i < 16 → 2 ≤ i % 6 → turnAt i ≡ planned.Open (i % 6 + 1) i 0
   unfolding turnAt
-  opens-unkeyed h k = rw (lt-ltb i 16 h, le-ltb (i % 4) 2 k)
+  opens-unkeyed h k = rw (lt-ltb i 16 h, le-ltb (i % 6) 2 k)
 
   pub feeds : 16 ≤ i → i < 96 → turnAt i ≡ planned.Feed (i % 16 + 1) (i % 12) (i % 37 * 5 % 37)
   unfolding turnAt

@@ -36,7 +36,7 @@ callOf planned.Sum sample = Sum
 -- turn number i: sixteen lines open, feed, draw and close by turns. Modes 1 and 2 get a key
 unfoldable pub turnAt : ℕ → Planned
 turnAt i =
-    cond (ltb i 16) (planned.Open (i % 4 + 1) i (cond (ltb (i % 4) 2) 16 0))
+    cond (ltb i 16) (planned.Open (i % 6 + 1) i (cond (ltb (i % 6) 2) 16 0))
     (cond (ltb i 96) (planned.Feed (i % 16 + 1) (i % 12) (i % 37 * 5 % 37))
     (cond (ltb i 192) (planned.Draw (i % 16 + 1) 48 (i % 41) (i % 23 * 7 % 23)) (planned.Close (i / 2 % 20))))
 

@@ -32,9 +32,9 @@ enum Step {
     FeedOften(u32, u8, usize, usize),
 }
 
-const STEPS: usize = 78;
+const STEPS: usize = 80;
 
-const DAY: [Step; 78] = [
+const DAY: [Step; 80] = [
     // No ticket is issued yet: every ticket is refused, and so are opens that name no mode or bring a wrong key.
     Step::Begin,
     Step::Make(Planned::Sum),
@@ -43,11 +43,13 @@ const DAY: [Step; 78] = [
     Step::Make(Planned::Check(4294967295, 0, 8)),
     Step::Make(Planned::Close(1)),
     Step::Make(Planned::Open(0, 0, 0)),
-    Step::Make(Planned::Open(5, 0, 16)),
+    Step::Make(Planned::Open(7, 0, 16)),
     Step::Make(Planned::Open(1, 0, 15)),
     Step::Make(Planned::Open(2, 0, 17)),
     Step::Make(Planned::Open(3, 0, 16)),
     Step::Make(Planned::Open(4, 0, 1)),
+    Step::Make(Planned::Open(5, 0, 16)),
+    Step::Make(Planned::Open(6, 0, 1)),
     // Sixteen lines open, and there is no place for a seventeenth. All are fed, drawn from and closed by turns. The sum keeps them all, and a place serves again.
     Step::Begin,
     Step::Turns(0, 16),
@@ -250,10 +252,10 @@ fn turn(i: usize) -> Planned
     ensures { λ r. ⌜ r ≡ spec.turnAt i ⌝ }
 {
     if i < 16 {
-        if i % 4 < 2 {
-            return Planned::Open((i % 4 + 1) as u32, i, 16);
+        if i % 6 < 2 {
+            return Planned::Open((i % 6 + 1) as u32, i, 16);
         }
-        return Planned::Open((i % 4 + 1) as u32, i, 0);
+        return Planned::Open((i % 6 + 1) as u32, i, 0);
     }
     let ticket = (i % 16 + 1) as u32;
     if i < 96 {
@@ -362,7 +364,7 @@ fn make_step(before: Hub, step: Step, sample: &[u8], text: &mut [u8], at: usize)
 }
 
 // The text of a whole plan, which begins with an empty hub, from the buffer's start on; answers the place behind it.
-fn list_plan(plan: [Step; 78], sample: &[u8], text: &mut [u8]) -> usize
+fn list_plan(plan: [Step; 80], sample: &[u8], text: &mut [u8]) -> usize
     ensures { λ r. ⌜ Wrote (now (text .entry)) 0 (spec.planText plan (now (sample .entry)) emptyHub) (now (text .exit)) r ⌝ }
 {
     let empty = Hub::empty();

@@ -16,7 +16,7 @@ pub sealed-frame : sealAfter (0 ∷ 1 ∷ 2 ∷ 3 ∷ 4 ∷ 5 ∷ 6 ∷ 7 ∷ 8 
     ≡ 0 ∷ 1 ∷ 2
     ∷ 0x10 ∷ 0xc2 ∷ 0xe8 ∷ 0xab ∷ 0xe5 ∷ 0x9c ∷ 0x69 ∷ 0x3f ∷ 0x7f ∷ 0x4a ∷ 0x84 ∷ 0x7a ∷ 0xc1 ∷ 0x9a ∷ 0x67 ∷ 0x5c
     ∷ 0xaa ∷ []
-unfolding bit word number column rotr weight byteAt bytesFrom xorWord xorAt xorFrom addConstant sbox atEveryPlace substitute mix diffuse round permute written row ceiling initial fromBytes toBytes wordsOf zerosTo start pad cut blocks flipIf absorbBlocks absorbMessage squeezeBlocks squeezeBytes output oneShot tagFor frameChecks sealAfter
+unfolding bit word number column rotr weight byteAt bytesFrom xorWord xorAt xorFrom addConstant sbox atEveryPlace substitute mix diffuse round permute written ceiling initial fromBytes toBytes wordsOf zerosTo start pad cut blocks flipIf absorbBlocks absorbMessage squeezeBlocks squeezeBytes output oneShot tagFor frameChecks sealAfter
 sealed-frame = refl
 
 pub runs : (frameRuns 0 ≡ 2) × (frameRuns 31 ≡ 2) × (frameRuns 32 ≡ 3) × (frameRuns 16777217 ≡ 524290)

@@ -103,7 +103,7 @@ module _ (key frame : List ℕ) (body : ℕ) where
 
     -- a tag is judged by all its bytes
     pub verdict : tagMatches (tagIn frame body) fedBody ≡ same (tagIn frame body) (tagFor key frame body)
-    unfolding tagMatches row tagFor
+    unfolding tagMatches tagFor
     verdict =
         ap₂ (λ (k : ℕ) (b : List ℕ). same (tagIn frame body) (take k b)) length-tagIn (calls-block 0 Mac key (take body frame))
         ∙ ap (same (tagIn frame body)) (take-all 16 (tagFor key frame body) (omega (arith, length-tagFor)))
@@ -111,7 +111,7 @@ module _ (key frame : List ℕ) (body : ℕ) where
     -- the runs, whether sixteen bytes are drawn or none
     module _ (few : length frame < 2 ^ 64) where
       fed-runs : (d : ℕ) → d ≤ 16 → squeezed d fedBody .runs ≡ frameRuns body
-      unfolding start runsEnded row ceiling frameRuns
+      unfolding start runsEnded ceiling frameRuns
       fed-runs d h =
           let n : length (take body frame) ≡ body = length-take-le body frame (omega arith) in
           calls-ended-runs 0 Mac key (take body frame) d (runs-fit Mac (length (take body frame)) d (omega (arith, n)) (omega arith)) ∙ omega (arith, n)

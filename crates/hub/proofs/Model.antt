@@ -9,9 +9,10 @@ use native.Mathlib.Nat.{zero-add, add-zero}
 use lib.ListN.{length, drop}
 use Rattle.checks.specs.Equality.{same}
 use Rattle.mode.specs.declared.Mode.{Mode}
-use Rattle.mode.specs.declared.Mode.the-variants.{Prf, Mac, Hash, Xof}
+use Rattle.mode.specs.declared.Mode.the-variants.{Mac}
 use Rattle.sponge.specs.declared.record.Record.{Record}
 use Rattle.mode.specs.Mode.{row, numberOf}
+use Rattle.mode.proofs.Modes.{limits, same-number}
 use Rattle.sponge.specs.Record.{sum64, withCore, withDrawn, afterRun, afterDrawing, fresh, absorbed, finished, nextBytes, squeezed, tagMatches}
 use Rattle.sponge.proofs.Core.{sum64-fits, sum64-zero, withCoreOf}
 use Rattle.sponge.proofs.Calls.{absorbed-is, absorbed-none, absorbed-append, finished-is, squeezed-is, squeezed-add, finished-again}
@@ -20,7 +21,7 @@ use Rattle.calls.specs.Checks.{longestTag}
 use Rattle.calls.specs.Machine.{Entry, formula, runsOf, outputOf, newEntry, afterFeed, afterDraw}
 use Rattle.calls.proofs.Output.{take-output}
 use Rattle.calls.proofs.Entries.{Good, mostRuns}
-use Rattle.calls.proofs.Sound.{draws-few, bounded}
+use Rattle.calls.proofs.Sound.{bounded}
 
 -- ---- the record
 
@@ -78,7 +79,7 @@ module _ (e : Entry) (g : Good e) where
 
 -- no count of bytes drawn comes near 64 bits
 drawn-small : (e : Entry) → Good e → e .drawn ≤ 1048576
-drawn-small e g = omega (arith, g .within, draws-few (e .mode))
+drawn-small e g = omega (arith, g .within, limits (e .mode) .drawn)
 
 pub model-fields : (e : Entry) → Good e → model e ≡ withCoreOf (model e) (outline e (e .drawn) (e .feeding))
 unfolding model
@@ -149,11 +150,7 @@ module _ (e : Entry) (g : Good e) where
 
 -- in the mode of tags no byte is drawn beyond the first block
 tag-mode : (mode : Mode) → numberOf mode ≡ 2 → (row mode .drawRate ≡ 16) × (row mode .mostDrawn ≡ 16)
-unfolding row
-tag-mode Prf h = absurd (omega arith)
-tag-mode Mac h = (refl, refl)
-tag-mode Hash h = absurd (omega arith)
-tag-mode Xof h = absurd (omega arith)
+tag-mode mode h = rw (same-number mode Mac h) (refl, refl)
 
 -- the verdict of a check
 pub verdict : (tag : List ℕ) (e : Entry) → Good e → numberOf (e .mode) ≡ 2 → length tag ≤ longestTag

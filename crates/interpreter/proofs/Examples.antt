@@ -133,5 +133,5 @@ pub examples :
     -- refused calls: a draw prints no bytes, and an open no ticket
     × Prints "call number bytes\ndraw 1 0002\nopen 0 -\nopen 1 00\nopen 3 -\ncheck 1 0011223344556677\nclose 2 -\ndraw 1 0021\n"
     "answer number bytes\nno 11 -\nno 1 -\nno 2 -\nok 1 -\nno 18 -\nno 11 -\nno 17 -\n"
-unfolding output printedOf scriptOf scriptFrom meaning answers answered wordFor numberFor bytesFor callOf lines answerLine parse fields fieldOf countOf isCount countValue noBytesOf bytesOf isHex isDash verbOf same before after isDigit allDigits plainStart valueFrom isNumber numberOf spelled decimal nibble digitOf hexPairs decoded hexOf bytesText events machine emptyMachine openMachine openChecks named row admit newEntry runsOf formula runsFeeding runsEnded ceiling start openCount total feedMachine drawMachine checkMachine closeMachine ticketChecks feedChecks feedOwn drawChecks drawOwn checkChecks checkOwn standingOf entryOf placeOf find afterFeed afterDraw afterClose put sumMachine outputOf written oneShot spongeOutput squeezeBytes
+unfolding output printedOf scriptOf scriptFrom meaning answers answered wordFor numberFor bytesFor callOf lines answerLine parse fields fieldOf countOf isCount countValue noBytesOf bytesOf isHex isDash verbOf same before after isDigit allDigits plainStart valueFrom isNumber numberOf spelled decimal nibble digitOf hexPairs decoded hexOf bytesText events machine emptyMachine openMachine openChecks named admit newEntry runsOf formula runsFeeding runsEnded ceiling start openCount total feedMachine drawMachine checkMachine closeMachine ticketChecks feedChecks feedOwn drawChecks drawOwn checkChecks checkOwn standingOf entryOf placeOf find afterFeed afterDraw afterClose put sumMachine outputOf written oneShot spongeOutput squeezeBytes
 examples = (refl, refl, refl, refl, refl, refl, refl, refl, refl, refl, refl, refl, refl, refl)

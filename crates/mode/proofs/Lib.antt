@@ -1,2 +1,3 @@
 -- Crate `mode`: its laws.
 pub mod Modes
+pub mod StartWords

@@ -1,4 +1,4 @@
-// The modes, with the table of document 01's "Four modes" as associated constants. A column of the table is a method.
+// The modes, with the table of document 01's "Four modes" and request K1's two rows as associated constants. A column of the table is a method.
 ghost use mathlib.Core.Path.{_≡_};
 ghost use Rattle.mode.specs.Mode.{numberOf, named, numberNamed, modeNumber, row};
 
@@ -7,9 +7,11 @@ pub enum Mode {
     Mac,
     Hash,
     Xof,
+    HashA,
+    XofA,
 }
 
-// What a number names: one of document 01's modes, or none.
+// What a number names: a mode, or none.
 pub enum Named {
     Is(Mode),
     NoMode,
@@ -30,6 +32,10 @@ impl Mode {
 
     pub const XOF_START: u64 = 0x0040_0c00_0000_0000;
 
+    pub const HASHA_START: u64 = 0x0040_0c04_0000_0100;
+
+    pub const XOFA_START: u64 = 0x0040_0c04_0000_0000;
+
     pub const KEY_LENGTH: usize = 16;
 
     pub const NO_KEY: usize = 0;
@@ -40,7 +46,15 @@ impl Mode {
 
     pub const HASH_OUTPUT: usize = 32;
 
-    // Document 01's number of the mode.
+    // Of the first run and of the one after the last message block.
+    pub const OUTER_ROUNDS: u64 = 12;
+
+    // Of all other runs.
+    pub const INNER_ROUNDS: u64 = 12;
+
+    pub const LIGHTER_INNER_ROUNDS: u64 = 8;
+
+    // The number of the mode in document 01 and request K1.
     pub fn number(self) -> u32
         ensures { λ r. ⌜ r ≡ numberOf self ⌝ }
     {
@@ -49,10 +63,12 @@ impl Mode {
             Mode::Mac => 2,
             Mode::Hash => 3,
             Mode::Xof => 4,
+            Mode::HashA => 5,
+            Mode::XofA => 6,
         }
     }
 
-    // The mode that a number names. A number that is not 1 to 4 names none.
+    // The mode that a number names. A number that is not 1 to 6 names none.
     pub fn of_number(number: u32) -> Named
         ensures number { λ r. ⌜ numberNamed r ≡ modeNumber number ⌝ }
         ensures named { λ r. ⌜ r ≡ named number ⌝ }
@@ -62,6 +78,8 @@ impl Mode {
             2 => Named::Is(Mode::Mac),
             3 => Named::Is(Mode::Hash),
             4 => Named::Is(Mode::Xof),
+            5 => Named::Is(Mode::HashA),
+            6 => Named::Is(Mode::XofA),
             _ => Named::NoMode,
         }
     }
@@ -75,6 +93,8 @@ impl Mode {
             Mode::Mac => Mode::KEYED_FEED_RATE,
             Mode::Hash => Mode::UNKEYED_RATE,
             Mode::Xof => Mode::UNKEYED_RATE,
+            Mode::HashA => Mode::UNKEYED_RATE,
+            Mode::XofA => Mode::UNKEYED_RATE,
         }
     }
 
@@ -87,6 +107,8 @@ impl Mode {
             Mode::Mac => Mode::KEYED_DRAW_RATE,
             Mode::Hash => Mode::UNKEYED_RATE,
             Mode::Xof => Mode::UNKEYED_RATE,
+            Mode::HashA => Mode::UNKEYED_RATE,
+            Mode::XofA => Mode::UNKEYED_RATE,
         }
     }
 
@@ -99,6 +121,8 @@ impl Mode {
             Mode::Mac => Mode::MAC_START,
             Mode::Hash => Mode::HASH_START,
             Mode::Xof => Mode::XOF_START,
+            Mode::HashA => Mode::HASHA_START,
+            Mode::XofA => Mode::XOFA_START,
         }
     }
 
@@ -111,6 +135,8 @@ impl Mode {
             Mode::Mac => Mode::KEY_LENGTH,
             Mode::Hash => Mode::NO_KEY,
             Mode::Xof => Mode::NO_KEY,
+            Mode::HashA => Mode::NO_KEY,
+            Mode::XofA => Mode::NO_KEY,
         }
     }
 
@@ -123,6 +149,8 @@ impl Mode {
             Mode::Mac => Mode::MAC_OUTPUT,
             Mode::Hash => Mode::HASH_OUTPUT,
             Mode::Xof => Mode::LONG_OUTPUT,
+            Mode::HashA => Mode::HASH_OUTPUT,
+            Mode::XofA => Mode::LONG_OUTPUT,
         }
     }
 
@@ -135,6 +163,22 @@ impl Mode {
             Mode::Mac => true,
             Mode::Hash => false,
             Mode::Xof => false,
+            Mode::HashA => false,
+            Mode::XofA => false,
+        }
+    }
+
+    // The rounds of every run that is neither the first nor the one after the last message block.
+    pub fn inner_rounds(self) -> u64
+        ensures { λ r. ⌜ r ≡ row self .innerRounds ⌝ }
+    {
+        match self {
+            Mode::Prf => Mode::INNER_ROUNDS,
+            Mode::Mac => Mode::INNER_ROUNDS,
+            Mode::Hash => Mode::INNER_ROUNDS,
+            Mode::Xof => Mode::INNER_ROUNDS,
+            Mode::HashA => Mode::LIGHTER_INNER_ROUNDS,
+            Mode::XofA => Mode::LIGHTER_INNER_ROUNDS,
         }
     }
 }

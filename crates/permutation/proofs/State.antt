@@ -2,13 +2,13 @@
 -- Assumes nothing.
 use mathlib.Core.Path.{refl}
 use mathlib.Core.List.{List}
-use Prim.Native.Nat.{ℕ, zero, suc, _-_, _^_, _≤_, _<_}
+use Prim.Native.Nat.{ℕ, zero, suc, _-_, _^_, _≤_, _<_, min}
 use lib.Dec.{T, leb, lit≤}
 use lib.Bits.{bitXor, xor-lt}
 use Rattle.word.specs.Word.{bit, word, column, rotr}
 use Rattle.word.proofs.Bits.{bit-lt, word-lt}
 use Rattle.word.proofs.Rotation.{rotr-lt}
-use Rattle.permutation.specs.Permutation.{addConstant, sbox, atEveryPlace, substitute, mix, diffuse, round, permute, run}
+use Rattle.permutation.specs.Permutation.{addConstant, sbox, atEveryPlace, substitute, mix, diffuse, round, lastRounds, permute}
 use Rattle.permutation.specs.State.{State}
 
 mix-lt : (m n x : ℕ) → m ≤ 64 → n ≤ 64 → x < 2 ^ 64 → mix m n x < 2 ^ 64
@@ -31,13 +31,16 @@ round-state i s = record {
     mixed m n b hm hn =
         mix-lt m n (placed b) (lit≤ hm) (lit≤ hn) (word-lt 64 (λ j. bit b (sbox (column j (addConstant i s)))) (λ j. bit-lt b (sbox (column j (addConstant i s)))))
 
--- a state stays a state through the last n rounds
+-- a state stays a state through n rounds
+last-state : (n : ℕ) (s : List ℕ) → State s → State (lastRounds n s)
+last-state zero s h = h
+last-state (suc n) s h = last-state n (round (12 - suc n) s) (round-state (12 - suc n) s)
+
 pub permute-state : (n : ℕ) (s : List ℕ) → State s → State (permute n s)
 unfolding permute
-permute-state zero s h = h
-permute-state (suc n) s h = permute-state n (round (12 - suc n) s) (round-state (12 - suc n) s)
+permute-state n s h = last-state (min n 12) s h
 
--- a run makes a state of any list
-pub run-state : (s : List ℕ) → State (run s)
+-- all twelve rounds make a state of any list
+pub twelve-state : (s : List ℕ) → State (permute 12 s)
 unfolding permute
-run-state s = permute-state 11 (round 0 s) (round-state 0 s)
+twelve-state s = last-state 11 (round 0 s) (round-state 0 s)

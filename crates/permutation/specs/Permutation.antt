@@ -2,7 +2,7 @@
 -- The names of section 3 of "Ascon PRF, MAC, and Short-Input MAC" (source document 003) stand in brackets.
 -- Assumes nothing.
 use mathlib.Core.List.{List, [], _∷_, map}
-use Prim.Native.Nat.{ℕ, zero, suc, _-_, _*_}
+use Prim.Native.Nat.{ℕ, zero, suc, _-_, _*_, min}
 use lib.ListN.{getD}
 use lib.Bits.{bitXor}
 use Rattle.word.specs.Word.{bit, word, column, rotr}
@@ -54,12 +54,11 @@ diffuse s = mix 19 28 (at s 0) ∷ mix 61 39 (at s 1) ∷ mix 1 6 (at s 2) ∷ m
 unfoldable pub round : ℕ → List ℕ → List ℕ
 round i s = diffuse (substitute (addConstant i s))
 
--- the last n of the twelve rounds, n up to 12: round 12 - n, then the last n - 1. [p^12] is all of them; which rounds a smaller n
--- has, the slides "ASCON" (source document 001) say
-unfoldable pub permute : ℕ → List ℕ → List ℕ
-permute zero s = s
-permute (suc n) s = permute n (round (12 - suc n) s)
+-- the last n of the twelve rounds, n up to 12: round 12 - n, and the last n - 1 after it
+abbrev pub lastRounds : ℕ → List ℕ → List ℕ
+lastRounds zero s = s
+lastRounds (suc n) s = lastRounds n (round (12 - suc n) s)
 
--- document 01's run: rounds 0 to 11
-abbrev pub run : List ℕ → List ℕ
-run = permute 12
+-- n rounds: the last n of the twelve, as the slides "ASCON" (source document 001) have it for their p^b. More than twelve means all twelve [p^12]
+unfoldable pub permute : ℕ → List ℕ → List ℕ
+permute n s = lastRounds (min n 12) s

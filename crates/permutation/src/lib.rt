@@ -1,9 +1,12 @@
-// The Ascon permutation: a state of five 64-bit words that goes by value through twelve rounds.
+// The Ascon permutation: a state of five 64-bit words that goes by value through twelve rounds, or through the last of them.
 ghost use mathlib.Core.Path.{_≡_};
-ghost use Prim.Native.Nat.{_≤_, _<_};
+ghost use Prim.Native.Nat.{_-_, _<_};
 ghost use Rattle.word.specs.Word.{rotr};
 ghost use Rattle.permutation.specs.Permutation as spec;
 ghost use Rattle.permutation.specs.Row.{rowAnswer, rowAfter};
+
+// All of the rounds.
+pub const ROUNDS: u64 = 12;
 
 // Document 01's refusal 7: the row is not of five words.
 pub const NOT_FIVE_WORDS: u32 = 7;
@@ -71,35 +74,37 @@ fn round(s: [u64; 5], i: u64) -> [u64; 5]
     diffuse(substitute([s[0], s[1], s[2] ^ c, s[3], s[4]]))
 }
 
-// The last n of the twelve rounds: the definitions' `permute n`.
-fn last_rounds(s: [u64; 5], n: u64) -> [u64; 5]
-    requires { ⌜ n ≤ 12 ⌝ }
+// The first of the last n rounds: round 0 where there are no more than n.
+fn first_round(n: u64) -> u64
+    ensures { λ r. ⌜ r ≡ 12 - n ⌝ }
+{
+    if n < ROUNDS {
+        return ROUNDS - n;
+    }
+    0
+}
+
+// n rounds, the last n of the twelve. More than twelve means all twelve.
+pub fn permute(s: [u64; 5], n: u64) -> [u64; 5]
     ensures { λ r. ⌜ r ≡ spec.permute n s ⌝ }
 {
     let mut t = s;
-    for i in 12 - n..12 {
+    for i in first_round(n)..ROUNDS {
         let u = round(t, i);
         t = u;
     }
     t
 }
 
-// The twelve rounds: document 01's run.
-pub fn permute(s: [u64; 5]) -> [u64; 5]
-    ensures { λ r. ⌜ r ≡ spec.run s ⌝ }
-{
-    last_rounds(s, 12)
-}
-
-// The twelve rounds over a lent row. A row that is not of five words is refused and stays as it is.
+// All twelve rounds over a lent row. A row that is not of five words is refused and stays as it is.
 pub fn permute_row(row: &mut [u64]) -> u32
     ensures answer { λ r. ⌜ r ≡ rowAnswer (now (row .entry)) ⌝ }
-    ensures after { λ r. ⌜ now (row .exit) ≡ rowAfter spec.run (now (row .entry)) ⌝ }
+    ensures after { λ r. ⌜ now (row .exit) ≡ rowAfter (spec.permute 12) (now (row .entry)) ⌝ }
 {
     if row.len() != 5 {
         return NOT_FIVE_WORDS;
     }
-    let t = permute([row[0], row[1], row[2], row[3], row[4]]);
+    let t = permute([row[0], row[1], row[2], row[3], row[4]], ROUNDS);
     row[0] = t[0];
     row[1] = t[1];
     row[2] = t[2];

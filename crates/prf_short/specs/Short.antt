@@ -5,7 +5,7 @@ use mathlib.Core.List.{List, [], _∷_, _++_}
 use Prim.Native.Nat.{ℕ, _-_, _*_}
 use lib.ListN.{length, drop}
 use Rattle.word.specs.Bytes.{bytesFrom, xorBytes, fromBytes, wordsOf, zerosTo}
-use Rattle.permutation.specs.Permutation.{run}
+use Rattle.permutation.specs.Permutation.{permute}
 
 -- the last t bytes [⌈X⌉^t]
 unfoldable pub lastBytes : ℕ → List ℕ → List ℕ
@@ -23,9 +23,9 @@ startWord m t = fromBytes (startValue m t)
 unfoldable pub start : List ℕ → List ℕ → ℕ → List ℕ
 start key message t = zerosTo 40 (startValue (length message) t ++ (key ++ message))
 
--- the state after one run, as bytes [S]
+-- the state after one run of twelve rounds, as bytes [S]
 unfoldable pub ended : List ℕ → List ℕ → ℕ → List ℕ
-ended key message t = bytesFrom 0 40 (run (wordsOf 5 (start key message t)))
+ended key message t = bytesFrom 0 40 (permute 12 (wordsOf 5 (start key message t)))
 
 -- the output: the last t bytes of that state, xored with the last t bytes of the key [T]
 unfoldable pub prfShort : List ℕ → List ℕ → ℕ → List ℕ

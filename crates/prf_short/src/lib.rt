@@ -33,7 +33,7 @@ fn output(key: &[u8], message: &[u8], out: &mut [u8])
     let m0 = state::word_of_bytes(message, 0);
     let m1 = state::word_of_bytes(message, 1);
     let start = [start_word(message.len(), out.len()), k0, k1, m0, m1];
-    let s = permutation::permute(start);
+    let s = permutation::permute(start, permutation::ROUNDS);
     let masked = [s[0], s[1], s[2], s[3] ^ k0, s[4] ^ k1];
     state::copy_bytes(masked, (40 - out.len()) as u32, out);
 }

@@ -6,6 +6,7 @@ use Prim.Native.Nat.{ℕ, _+_, _^_, _<_}
 use native.Mathlib.Nat.{add-zero, add-assoc, mod-lt, mod-eq-of-lt, mod-add-mod}
 use native.Mathlib.Omega.{arith}
 use Rattle.sponge.specs.declared.record.Record.{Record}
+use Rattle.mode.specs.Mode.{Row}
 use Rattle.sponge.specs.Record.{sum64, withCore, afterRun, runIf}
 
 -- ---- sums of 64 bits
@@ -32,7 +33,7 @@ abbrev pub withCoreOf : Record → Record → Record
 withCoreOf y x = withCore (y .words) (y .runs) x
 
 -- a run reads and changes the words and the runs of a record, and nothing else: x has the other fields
-pub runIf-core : (due : Bool) (r x : Record) → runIf due (withCoreOf r x) ≡ withCoreOf (runIf due r) x
+pub runIf-core : (w : Row) (due : Bool) (r x : Record) → runIf w due (withCoreOf r x) ≡ withCoreOf (runIf w due r) x
 unfolding runIf afterRun
-runIf-core true r x = refl
-runIf-core false r x = refl
+runIf-core w true r x = refl
+runIf-core w false r x = refl

@@ -14,7 +14,7 @@ use lib.ListN.{length, take, drop}
 use lib.Seq.{take-at, drop-at}
 use borrow.Author.Tests.{eqb-true, eqb-false, ne-eqb}
 use Rattle.word.specs.Bytes.{byteAt, bytesFrom}
-use Rattle.permutation.specs.Permutation.{run}
+use Rattle.permutation.specs.Permutation.{permute}
 use Rattle.sponge.specs.declared.record.Record.{Record}
 use Rattle.mode.specs.Mode.{Row}
 use Rattle.sponge.specs.Sponge.{ceiling, squeezeBlocks, squeezeBytes}
@@ -29,13 +29,13 @@ pub drawnBytes-core : (w : Row) (k d : ℕ) (r x : Record) → drawnBytes w d k 
 unfolding drawnBytes ready
 drawnBytes-core w zero d r x = refl
 drawnBytes-core w (suc k) d r x =
-    rw (runIf-core (not (eqb d 0) && eqb (d % w .drawRate) 0) r x, drawnBytes-core w k (suc d) (ready w d r) x)
+    rw (runIf-core w (not (eqb d 0) && eqb (d % w .drawRate) 0) r x, drawnBytes-core w k (suc d) (ready w d r) x)
 
 -- and changes nothing else
 pub afterDrawing-core : (w : Row) (k d : ℕ) (r x : Record) → afterDrawing w d k (withCoreOf r x) ≡ withCoreOf (afterDrawing w d k r) x
 unfolding afterDrawing ready
 afterDrawing-core w zero d r x = refl
-afterDrawing-core w (suc k) d r x = rw (runIf-core (not (eqb d 0) && eqb (d % w .drawRate) 0) r x) (afterDrawing-core w k (suc d) (ready w d r) x)
+afterDrawing-core w (suc k) d r x = rw (runIf-core w (not (eqb d 0) && eqb (d % w .drawRate) 0) r x) (afterDrawing-core w k (suc d) (ready w d r) x)
 
 -- a bytes drawn, and then b more
 pub afterDrawing-add : (w : Row) (a b d : ℕ) (r : Record) → afterDrawing w d (a + b) r ≡ afterDrawing w (d + a) b (afterDrawing w d a r)
@@ -99,52 +99,52 @@ bytes-values k (suc n) ws = rw (bytes-values (suc k) n ws)
 
 -- ---- several runs
 
--- k runs of a state, one after the other
-unfoldable pub runTimes : ℕ → List ℕ → List ℕ
-runTimes zero s = s
-runTimes (suc k) s = run (runTimes k s)
+-- k runs between blocks of a state, one after the other
+unfoldable pub runTimes : Row → ℕ → List ℕ → List ℕ
+runTimes w zero s = s
+runTimes w (suc k) s = permute (w .innerRounds) (runTimes w k s)
 
 -- and of a record
-unfoldable pub afterRuns : ℕ → Record → Record
-afterRuns k r = withCore (runTimes k (r .words)) (sum64 (r .runs) k) r
+unfoldable pub afterRuns : Row → ℕ → Record → Record
+afterRuns w k r = withCore (runTimes w k (r .words)) (sum64 (r .runs) k) r
 
-runTimes-first : (k : ℕ) (s : List ℕ) → runTimes k (run s) ≡ run (runTimes k s)
+runTimes-first : (w : Row) (k : ℕ) (s : List ℕ) → runTimes w k (permute (w .innerRounds) s) ≡ permute (w .innerRounds) (runTimes w k s)
 unfolding runTimes
-runTimes-first zero s = refl
-runTimes-first (suc k) s = ap run (runTimes-first k s)
+runTimes-first w zero s = refl
+runTimes-first w (suc k) s = ap (permute (w .innerRounds)) (runTimes-first w k s)
 
-pub afterRuns-zero : (r : Record) → r .runs < 2 ^ 64 → afterRuns 0 r ≡ r
+pub afterRuns-zero : (w : Row) (r : Record) → r .runs < 2 ^ 64 → afterRuns w 0 r ≡ r
 unfolding afterRuns runTimes
-afterRuns-zero r h = ap (λ (n : ℕ). withCore (r .words) n r) (sum64-zero (r .runs) h)
+afterRuns-zero w r h = ap (λ (n : ℕ). withCore (r .words) n r) (sum64-zero (r .runs) h)
 
-afterRuns-next : (k : ℕ) (r : Record) → afterRun (afterRuns k r) ≡ afterRuns (suc k) r
+afterRuns-next : (w : Row) (k : ℕ) (r : Record) → afterRun (w .innerRounds) (afterRuns w k r) ≡ afterRuns w (suc k) r
 unfolding afterRun afterRuns runTimes
-afterRuns-next k r = ap (λ (n : ℕ). withCore (run (runTimes k (r .words))) n r) (sum64-sum64 (r .runs) k 1 ∙ rw add-one)
+afterRuns-next w k r = ap (λ (n : ℕ). withCore (permute (w .innerRounds) (runTimes w k (r .words))) n r) (sum64-sum64 (r .runs) k 1 ∙ rw add-one)
 
 -- output byte number i, s being the state at the end of feeding
 unfoldable pub outputByte : Row → List ℕ → ℕ → ℕ
-outputByte w s i = byteAt (runTimes (i / w .drawRate) s) (i % w .drawRate)
+outputByte w s i = byteAt (runTimes w (i / w .drawRate) s) (i % w .drawRate)
 
 -- ---- drawing block by block
 
 module _ (w : Row) (pos : 0 < w .drawRate) where
   -- after the runs that d bytes drawn have left behind, byte number d is made ready: its block stands in the words
-  ready-next : (d : ℕ) (r : Record) → ready w (suc d) (afterRuns (d / w .drawRate) r) ≡ afterRuns (suc d / w .drawRate) r
+  ready-next : (d : ℕ) (r : Record) → ready w (suc d) (afterRuns w (d / w .drawRate) r) ≡ afterRuns w (suc d / w .drawRate) r
   unfolding ready runIf
   ready-next d r = rw (ne-eqb (suc d) 0 (λ z. omega arith)) (go (eqb (suc d % w .drawRate) 0) refl)
     where
-      go : (t : Bool) → eqb (suc d % w .drawRate) 0 ≡ t → runIf t (afterRuns (d / w .drawRate) r) ≡ afterRuns (suc d / w .drawRate) r
-      go true e = rw (next-block (w .drawRate) pos d (eqb-true _ _ e)) (afterRuns-next (d / w .drawRate) r)
+      go : (t : Bool) → eqb (suc d % w .drawRate) 0 ≡ t → runIf w t (afterRuns w (d / w .drawRate) r) ≡ afterRuns w (suc d / w .drawRate) r
+      go true e = rw (next-block (w .drawRate) pos d (eqb-true _ _ e)) (afterRuns-next w (d / w .drawRate) r)
       go false e = rw (same-block (w .drawRate) pos d (eqb-false _ _ e))
 
-  ready-after : (d : ℕ) (r : Record) → ready w d (afterRuns ((d - 1) / w .drawRate) r) ≡ afterRuns (d / w .drawRate) r
+  ready-after : (d : ℕ) (r : Record) → ready w d (afterRuns w ((d - 1) / w .drawRate) r) ≡ afterRuns w (d / w .drawRate) r
   unfolding ready runIf
   ready-after zero r = refl
   ready-after (suc d) r = rw (suc-less d) (ready-next d r)
 
   -- d bytes drawn leave the record after (d - 1) / rate runs: so do k more
   pub afterDrawing-runs : (k d : ℕ) (r : Record)
-      → afterDrawing w d k (afterRuns ((d - 1) / w .drawRate) r) ≡ afterRuns ((d + k - 1) / w .drawRate) r
+      → afterDrawing w d k (afterRuns w ((d - 1) / w .drawRate) r) ≡ afterRuns w ((d + k - 1) / w .drawRate) r
   unfolding afterDrawing
   afterDrawing-runs zero d r = rw add-zero
   afterDrawing-runs (suc k) d r =
@@ -153,7 +153,7 @@ module _ (w : Row) (pos : 0 < w .drawRate) where
 
   -- and those k are bytes number d to d + k - 1 of the output
   pub drawnBytes-values : (k d : ℕ) (r : Record)
-      → drawnBytes w d k (afterRuns ((d - 1) / w .drawRate) r) ≡ valuesFrom (outputByte w (r .words)) d k
+      → drawnBytes w d k (afterRuns w ((d - 1) / w .drawRate) r) ≡ valuesFrom (outputByte w (r .words)) d k
   unfolding drawnBytes outputByte afterRuns valuesFrom
   drawnBytes-values zero d r = refl
   drawnBytes-values (suc k) d r = rw (ready-after d r) (rw (rw (suc-less d) at (drawnBytes-values k (suc d) r)))
@@ -165,7 +165,7 @@ module _ (w : Row) (pos : 0 < w .drawRate) where
   unfolding outputByte runTimes
   first-block s j h = rw (div-eq-of-lt h, mod-eq-of-lt h)
 
-  later-block : (s : List ℕ) (j : ℕ) → outputByte w s (w .drawRate + j) ≡ outputByte w (run s) j
+  later-block : (s : List ℕ) (j : ℕ) → outputByte w s (w .drawRate + j) ≡ outputByte w (permute (w .innerRounds) s) j
   unfolding outputByte runTimes
   later-block s j = rw (add-div-left j pos, add-one, add-mod-left, runTimes-first)
 
@@ -178,10 +178,10 @@ module _ (w : Row) (pos : 0 < w .drawRate) where
   squeezeBlocks-values zero s = rw zero-mul
   squeezeBlocks-values (suc k) s =
       let first : valuesFrom (outputByte w s) 0 (w .drawRate) ≡ bytesFrom 0 (w .drawRate) s = first-bytes (w .drawRate) s (le-refl (w .drawRate)) in
-      let later : valuesFrom (outputByte w s) (w .drawRate + 0) (k * w .drawRate) ≡ valuesFrom (outputByte w (run s)) 0 (k * w .drawRate) =
+      let later : valuesFrom (outputByte w s) (w .drawRate + 0) (k * w .drawRate) ≡ valuesFrom (outputByte w (permute (w .innerRounds) s)) 0 (k * w .drawRate) =
       values-later _ _ (w .drawRate) 0 (k * w .drawRate) (later-block s) in
       let e : suc k * w .drawRate ≡ w .drawRate + k * w .drawRate = omega arith in
-      rw (e, values-add (outputByte w s) 0 (w .drawRate) (k * w .drawRate), first, squeezeBlocks-values k (run s), ← later, zero-add, add-zero)
+      rw (e, values-add (outputByte w s) 0 (w .drawRate) (k * w .drawRate), first, squeezeBlocks-values k (permute (w .innerRounds) s), ← later, zero-add, add-zero)
 
   -- the first d bytes of the output
   pub squeezeBytes-values : (d : ℕ) (s : List ℕ) → squeezeBytes w d s ≡ valuesFrom (outputByte w s) 0 d
@@ -191,7 +191,7 @@ module _ (w : Row) (pos : 0 < w .drawRate) where
       (take-values _ 0 d (ceiling d (w .drawRate) * w .drawRate) (omega (arith, lt-div-mul-add {a = d + (w .drawRate - 1)} pos)))
 
   -- so k bytes drawn, after d, are those of the output's first d + k that follow the first d
-  pub drawnBytes-squeezed : (k d : ℕ) (r : Record) → drawnBytes w d k (afterRuns ((d - 1) / w .drawRate) r) ≡ drop d (squeezeBytes w (d + k) (r .words))
+  pub drawnBytes-squeezed : (k d : ℕ) (r : Record) → drawnBytes w d k (afterRuns w ((d - 1) / w .drawRate) r) ≡ drop d (squeezeBytes w (d + k) (r .words))
   drawnBytes-squeezed k d r = rw (drawnBytes-values k d r, squeezeBytes-values (d + k) (r .words)) (sym (drop-values _ d k))
 
   -- the blocks that d bytes take, in the two ways of counting them: one is there before any byte is drawn

@@ -1,6 +1,7 @@
 -- One output of each mode, which the checker computes. Of the PRF, the hash and the XOF: of a message that fills a block, so that a block of padding follows it, and with a
--- byte more than a block of output has. Of the MAC: of 40 bytes, more than one block, so that another feed rate gives another tag. The theorem on streaming holds for any
--- row; these hold the rows of the table. Each begins a line of crates/vectors/stdout.
+-- byte more than a block of output has. Of the MAC: of 40 bytes, more than one block, so that another feed rate gives another tag. Of the lighter hash and XOF: of more than
+-- two blocks, and more than two blocks of output, so that the first run, those between blocks, the one after the last, and those while drawing all count. The theorem on
+-- streaming holds for any row; these hold the rows of the table. Each begins a line of crates/vectors/stdout.
 -- Assumes nothing.
 use mathlib.Core.List.{List, [], _∷_, _++_}
 use mathlib.Core.Path.{_≡_, refl}
@@ -8,7 +9,7 @@ use Prim.Native.Nat.{ℕ}
 use Rattle.word.specs.Word.{bit, word, number, column, rotr}
 use Rattle.word.specs.Bytes.{weight, byteAt, bytesFrom, xorWord, xorAt, xorFrom, fromBytes, toBytes, wordsOf, zerosTo}
 use Rattle.permutation.specs.Permutation.{addConstant, sbox, atEveryPlace, substitute, mix, diffuse, round, permute}
-use Rattle.mode.specs.declared.Mode.the-variants.{Prf, Mac, Hash, Xof}
+use Rattle.mode.specs.declared.Mode.the-variants.{Prf, Mac, Hash, Xof, HashA, XofA}
 use Rattle.mode.specs.Mode.{row}
 use Rattle.sponge.specs.Sponge.{
   ceiling,
@@ -26,15 +27,18 @@ use Rattle.sponge.specs.Sponge.{
   oneShot,
 }
 
--- the bytes 00 to 07, 00 to 0f, 00 to 1f and 00 to 27
+-- the bytes 00 to 07, 00 to 0f, 00 to 13, 00 to 1f and 00 to 27
 abbrev eight : List ℕ
 eight = 0 ∷ 1 ∷ 2 ∷ 3 ∷ 4 ∷ 5 ∷ 6 ∷ 7 ∷ []
 
 abbrev sixteen : List ℕ
 sixteen = eight ++ 8 ∷ 9 ∷ 10 ∷ 11 ∷ 12 ∷ 13 ∷ 14 ∷ 15 ∷ []
 
+abbrev twenty : List ℕ
+twenty = sixteen ++ 16 ∷ 17 ∷ 18 ∷ 19 ∷ []
+
 abbrev thirty-two : List ℕ
-thirty-two = sixteen ++ 16 ∷ 17 ∷ 18 ∷ 19 ∷ 20 ∷ 21 ∷ 22 ∷ 23 ∷ 24 ∷ 25 ∷ 26 ∷ 27 ∷ 28 ∷ 29 ∷ 30 ∷ 31 ∷ []
+thirty-two = twenty ++ 20 ∷ 21 ∷ 22 ∷ 23 ∷ 24 ∷ 25 ∷ 26 ∷ 27 ∷ 28 ∷ 29 ∷ 30 ∷ 31 ∷ []
 
 abbrev forty : List ℕ
 forty = thirty-two ++ 32 ∷ 33 ∷ 34 ∷ 35 ∷ 36 ∷ 37 ∷ 38 ∷ 39 ∷ []
@@ -46,5 +50,9 @@ pub known-outputs :
     ≡ 0x47 ∷ 0x6e ∷ 0xae ∷ 0xc5 ∷ 0xac ∷ 0x60 ∷ 0x84 ∷ 0x97 ∷ 0x65 ∷ 0x01 ∷ 0x44 ∷ 0x6e ∷ 0xaf ∷ 0x61 ∷ 0x80 ∷ 0xb5 ∷ [])
     × (oneShot (row Hash) [] eight 9 ≡ 0xf4 ∷ 0xc6 ∷ 0xa4 ∷ 0x4b ∷ 0x29 ∷ 0x91 ∷ 0x5d ∷ 0x3d ∷ 0x57 ∷ [])
     × (oneShot (row Xof) [] eight 9 ≡ 0x18 ∷ 0x42 ∷ 0x7d ∷ 0x2d ∷ 0x29 ∷ 0xdf ∷ 0x1e ∷ 0x02 ∷ 0x02 ∷ [])
-unfolding bit word number column rotr weight byteAt bytesFrom xorWord xorAt xorFrom fromBytes toBytes wordsOf zerosTo addConstant sbox atEveryPlace substitute mix diffuse round permute row ceiling initial start pad cut blocks flipIf absorbBlocks absorbMessage squeezeBlocks squeezeBytes output oneShot
-known-outputs = (refl, refl, refl, refl)
+    × (oneShot (row HashA) [] twenty 20
+    ≡ 0xee ∷ 0xd9 ∷ 0x2d ∷ 0x43 ∷ 0x7e ∷ 0x8d ∷ 0x53 ∷ 0x44 ∷ 0xd3 ∷ 0xa8 ∷ 0x90 ∷ 0xcd ∷ 0x2b ∷ 0x43 ∷ 0xb0 ∷ 0x66 ∷ 0x01 ∷ 0x68 ∷ 0xe4 ∷ 0x8d ∷ [])
+    × (oneShot (row XofA) [] twenty 20
+    ≡ 0x76 ∷ 0xc1 ∷ 0x1d ∷ 0x67 ∷ 0x1c ∷ 0x96 ∷ 0x57 ∷ 0x5f ∷ 0x05 ∷ 0xe3 ∷ 0xc3 ∷ 0xc6 ∷ 0xe7 ∷ 0x64 ∷ 0x8b ∷ 0x2b ∷ 0xbd ∷ 0x40 ∷ 0x3a ∷ 0x90 ∷ [])
+unfolding bit word number column rotr weight byteAt bytesFrom xorWord xorAt xorFrom fromBytes toBytes wordsOf zerosTo addConstant sbox atEveryPlace substitute mix diffuse round permute ceiling initial start pad cut blocks flipIf absorbBlocks absorbMessage squeezeBlocks squeezeBytes output oneShot
+known-outputs = (refl, refl, refl, refl, refl, refl)

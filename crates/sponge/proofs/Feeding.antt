@@ -15,9 +15,9 @@ use lib.Seq.{take-all, take-at, drop-at, length-take-le}
 use borrow.Author.Tests.{eq-eqb, ne-eqb, ltb-true, ltb-false}
 use Rattle.word.specs.Bytes.{xorAt, xorFrom}
 use Rattle.word.proofs.Bytes.{xorFrom-zeros, xorFrom-append}
-use Rattle.permutation.specs.Permutation.{run}
+use Rattle.permutation.specs.Permutation.{permute}
 use Rattle.sponge.specs.declared.record.Record.{Record}
-use Rattle.mode.specs.Mode.{Row}
+use Rattle.mode.specs.Mode.{outerRounds, Row}
 use Rattle.sponge.specs.Sponge.{pad, cut, blocks, flipIf, absorbBlocks, absorbMessage}
 use Rattle.sponge.proofs.Core.{sum64-lt, sum64-sum64, sum64-zero, withCoreOf, runIf-core}
 use Rattle.sponge.specs.Record.{sum64, withCore, withFeeding, inWords, afterRun, runIf, feedByte, feedBytes, endFeeding}
@@ -29,7 +29,7 @@ pub feedBytes-core : (w : Row) (bs : List ℕ) (n : ℕ) (r x : Record) → feed
 unfolding feedBytes feedByte inWords
 feedBytes-core w [] n r x = refl
 feedBytes-core w (b ∷ bs) n r x =
-    rw (runIf-core (eqb (suc (n % w .feedRate)) (w .feedRate)) (inWords (xorAt (n % w .feedRate) b) r) x) (feedBytes-core w bs (suc n) (feedByte w n b r) x)
+    rw (runIf-core w (eqb (suc (n % w .feedRate)) (w .feedRate)) (inWords (xorAt (n % w .feedRate) b) r) x) (feedBytes-core w bs (suc n) (feedByte w n b r) x)
 
 -- of the number of a byte only its place in the block counts
 pub feedBytes-place : (w : Row) (bs : List ℕ) (n m : ℕ) (r : Record) → n % w .feedRate ≡ m % w .feedRate → feedBytes w n bs r ≡ feedBytes w m bs r
@@ -94,7 +94,7 @@ module _ (w : Row) where
 
   -- bytes of one block: all are xored in, and a run follows where the last one fills the block
   pub feed-part : (bs : List ℕ) (b n i : ℕ) (r : Record) → n % w .feedRate ≡ i → i + suc (length bs) ≤ w .feedRate
-      → feedBytes w n (b ∷ bs) r ≡ runIf (eqb (i + suc (length bs)) (w .feedRate)) (inWords (xorFrom i (b ∷ bs)) r)
+      → feedBytes w n (b ∷ bs) r ≡ runIf w (eqb (i + suc (length bs)) (w .feedRate)) (inWords (xorFrom i (b ∷ bs)) r)
   unfolding feedBytes feedByte inWords xorFrom
   feed-part [] b n i r e h = rw (e, add-one)
   feed-part (c ∷ bs) b n i r e h =
@@ -109,7 +109,7 @@ module _ (w : Row) where
 
   -- a whole block, from its first place on
   pub feed-block : (b : List ℕ) (n : ℕ) (r : Record) → 0 < w .feedRate → length b ≡ w .feedRate → n % w .feedRate ≡ 0
-      → feedBytes w n b r ≡ afterRun (inWords (xorFrom 0 b) r)
+      → feedBytes w n b r ≡ afterRun (w .innerRounds) (inWords (xorFrom 0 b) r)
   unfolding runIf
   feed-block [] n r pos h e = absurd (omega arith)
   feed-block (x ∷ b) n r pos h e = feed-part b x n 0 r e (omega arith) ∙ rw (eq-eqb (0 + suc (length b)) (w .feedRate) (omega arith))
@@ -122,7 +122,7 @@ module _ (w : Row) (pos : 0 < w .feedRate) where
   place n k e = rw (add-mod, e, zero-add, mod-mod)
 
   -- the absorbed state after a block and a message
-  absorb-block : (b m s : List ℕ) → length b ≡ w .feedRate → absorbMessage w (b ++ m) s ≡ absorbMessage w m (run (xorFrom 0 b s))
+  absorb-block : (b m s : List ℕ) → length b ≡ w .feedRate → absorbMessage w (b ++ m) s ≡ absorbMessage w m (permute (w .innerRounds) (xorFrom 0 b s))
   unfolding absorbMessage absorbBlocks blocks cut
   absorb-block b m s h =
       rw (
@@ -131,14 +131,14 @@ module _ (w : Row) (pos : 0 < w .feedRate) where
         length-pad (w .feedRate) pos m,
         mul-div-cancel (length m / w .feedRate + 1) pos,
         add-one,
-      )
+      ) refl
 
   -- and after a message that does not fill a block
-  absorb-rest : (q s : List ℕ) → length q < w .feedRate → absorbMessage w q s ≡ run (flipIf (w .flips) (xorAt (length q) 0x80 (xorFrom 0 q s)))
+  absorb-rest : (q s : List ℕ) → length q < w .feedRate → absorbMessage w q s ≡ permute outerRounds (flipIf (w .flips) (xorAt (length q) 0x80 (xorFrom 0 q s)))
   unfolding absorbMessage absorbBlocks blocks cut pad xorFrom
   absorb-rest q s h =
       let l : length (pad (w .feedRate) q) ≡ w .feedRate = length-pad (w .feedRate) pos q ∙ rw (div-eq-of-lt h, one-mul) in
-      rw (l, div-self pos, take-all (w .feedRate) (pad (w .feedRate) q) (omega arith), xorFrom-append, xorFrom-zeros, zero-add)
+      rw (l, div-self pos, take-all (w .feedRate) (pad (w .feedRate) q) (omega arith), xorFrom-append, xorFrom-zeros, zero-add) refl
 
   -- what is claimed of a message fed and ended, its first byte having the first place
   Ends : List ℕ → Type 0
@@ -161,7 +161,7 @@ module _ (w : Row) (pos : 0 < w .feedRate) where
         length-append,
         h,
         ← add-assoc,
-        ih (n + w .feedRate) (afterRun (inWords (xorFrom 0 b) r)) (add-mod-right n (w .feedRate) ∙ e),
+        ih (n + w .feedRate) (afterRun (w .innerRounds) (inWords (xorFrom 0 b) r)) (add-mod-right n (w .feedRate) ∙ e),
       )
       (ap₂ (λ (s : List ℕ) (k : ℕ). withFeeding false (withCore s k r)) (sym (absorb-block b m (r .words) h))
       (rw (add-div-left (length m) pos) (sum64-sum64 (r .runs) 1 (length m / w .feedRate + 1) ∙ ap (sum64 (r .runs)) (omega arith))))
@@ -192,7 +192,7 @@ module _ (w : Row) (pos : 0 < w .feedRate) where
             feed-block w b n r pos h e,
             length-append,
             h,
-            ih (n + w .feedRate) (afterRun (inWords (xorFrom 0 b) r)) (add-mod-right n (w .feedRate) ∙ e) (sum64-lt (r .runs) 1),
+            ih (n + w .feedRate) (afterRun (w .innerRounds) (inWords (xorFrom 0 b) r)) (add-mod-right n (w .feedRate) ∙ e) (sum64-lt (r .runs) 1),
             add-div-left (length m) pos,
           )
           (sum64-sum64 (r .runs) 1 (length m / w .feedRate) ∙ ap (sum64 (r .runs)) (omega arith))

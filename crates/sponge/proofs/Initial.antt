@@ -7,14 +7,14 @@ use Prim.Native.Nat.{ℕ, _≤_}
 use native.Mathlib.Omega.{arith}
 use lib.Bits.{bitXor, xor-zero-r}
 use lib.ListN.{length, take, length-take}
-use Rattle.word.specs.Bytes.{bytesFrom, xorFrom, window, fromBytes, toBytes, zerosTo}
+use Rattle.word.specs.Bytes.{bytesFrom, xorFrom, window, toBytes, zerosTo}
 use Rattle.word.proofs.Arrays.{cons-same}
 use Rattle.word.proofs.Windows.{window-past, window-before, window-moved, xorFrom-words}
-use Rattle.word.proofs.Bytes.{Bytes, part-bytes, number-bytes}
+use Rattle.word.proofs.Bytes.{Bytes, part-bytes, number-bytes, number-read}
 use Rattle.state.proofs.Starts.{start-read, start-xored}
 use Rattle.mode.specs.declared.Mode.{Mode}
-use Rattle.mode.specs.declared.Mode.the-variants.{Prf, Mac, Hash, Xof}
 use Rattle.mode.specs.Mode.{Row, row}
+use Rattle.mode.proofs.Modes.{limits}
 use Rattle.sponge.specs.Sponge.{initial}
 
 pub initial-bytes : (w : Row) (key : List ℕ) → Bytes key → length (take (w .keyLength) key) ≤ 32
@@ -23,21 +23,9 @@ unfolding initial toBytes
 initial-bytes w key bytes short =
     start-read (toBytes 8 (w .startWord)) (take (w .keyLength) key) refl short (number-bytes 8 (w .startWord)) (part-bytes (w .keyLength) 0 key bytes)
 
--- a start word is the number that its eight bytes make
-start-number : (mode : Mode) → fromBytes (toBytes 8 (row mode .startWord)) ≡ row mode .startWord
-unfolding row fromBytes toBytes
-start-number Prf = refl
-start-number Mac = refl
-start-number Hash = refl
-start-number Xof = refl
-
--- what is taken of a key fits into the two words behind it
+-- what is taken of a key fits into the two words behind the start word
 key-fits : (mode : Mode) (key : List ℕ) → length (take (row mode .keyLength) key) ≤ 16
-unfolding row
-key-fits Prf key = omega (arith, length-take 16 key)
-key-fits Mac key = omega (arith, length-take 16 key)
-key-fits Hash key = omega (arith, length-take 0 key)
-key-fits Xof key = omega (arith, length-take 0 key)
+key-fits mode key = omega (arith, length-take (row mode .keyLength) key, limits mode .key)
 
 module _ (mode : Mode) (key : List ℕ) (bytes : Bytes key) where
   abbrev value : List ℕ
@@ -50,7 +38,7 @@ module _ (mode : Mode) (key : List ℕ) (bytes : Bytes key) where
   unfolding initial toBytes
   initial-xored =
       start-xored value used refl (omega (arith, key-fits mode key)) (number-bytes 8 (row mode .startWord)) (part-bytes (row mode .keyLength) 0 key bytes)
-      ∙ ap (λ (x : ℕ). xorFrom 8 used (x ∷ 0 ∷ 0 ∷ 0 ∷ 0 ∷ [])) (start-number mode)
+      ∙ ap (λ (x : ℕ). xorFrom 8 used (x ∷ 0 ∷ 0 ∷ 0 ∷ 0 ∷ [])) (number-read 8 (row mode .startWord) (limits mode .start))
 
   -- written out: the words of the key begin behind the start word
   pub initial-words : initial (row mode) key ≡ row mode .startWord ∷ window 0 used 0 ∷ window 0 used 1 ∷ 0 ∷ 0 ∷ []

@@ -26,14 +26,14 @@ use Rattle.sponge.proofs.Drawing.{drawnBytes-add, afterDrawing-add}
 -- ---- feeding
 
 -- a run changes no field but words and count
-pub run-if-mode : (due : Bool) (r : Record) → runIf due r .mode ≡ r .mode
+pub run-if-mode : (w : Row) (due : Bool) (r : Record) → runIf w due r .mode ≡ r .mode
 unfolding runIf afterRun
-run-if-mode true r = refl
-run-if-mode false r = refl
+run-if-mode w true r = refl
+run-if-mode w false r = refl
 
 pub filled-mode : (w : Row) (p : ℕ) (bs : List ℕ) (r : Record) → filled w p bs r .mode ≡ r .mode
 unfolding filled inWords
-filled-mode w p bs r = run-if-mode (eqb (p + length bs) (w .feedRate)) (inWords (xorFrom p bs) r)
+filled-mode w p bs r = run-if-mode w (eqb (p + length bs) (w .feedRate)) (inWords (xorFrom p bs) r)
 
 -- bytes that stay in the block of number n, whose place is p
 pub feed-filled : (w : Row) (bs : List ℕ) (b n p : ℕ) (r : Record) → n % w .feedRate ≡ p → p + suc (length bs) ≤ w .feedRate
@@ -95,7 +95,7 @@ module _ (w : Row) (pos : 0 < w .drawRate) where
   unfolding ready runIf
   ready-within d r ne = rw (ne-eqb (d % w .drawRate) 0 ne, and-false (not (eqb d 0)))
 
-  pub ready-due : (d : ℕ) (r : Record) → d ≢ 0 → d % w .drawRate ≡ 0 → ready w d r ≡ afterRun r
+  pub ready-due : (d : ℕ) (r : Record) → d ≢ 0 → d % w .drawRate ≡ 0 → ready w d r ≡ afterRun (w .innerRounds) r
   unfolding ready runIf
   ready-due d r ne e = rw (ne-eqb d 0 ne, eq-eqb (d % w .drawRate) 0 e)
 
@@ -220,8 +220,8 @@ module _ (w : Row) (pos : 0 < w .drawRate) (r : Record) where
   -- the next block, as far as there is room
   pub squeeze-block : (n : ℕ) (out ys : List ℕ) (current : Record) (done k m : ℕ) → Squeezing w r n out current done → done < n
       → k ≡ min (w .drawRate) (n - done) → m ≡ k
-      → ys ≡ bytesFrom 0 k (afterRun current .words)
-      → Squeezing w r n (take done out ++ (ys ++ drop m (drop done out))) (afterRun current) (done + k)
+      → ys ≡ bytesFrom 0 k (afterRun (w .innerRounds) current .words)
+      → Squeezing w r n (take done out ++ (ys ++ drop m (drop done out))) (afterRun (w .innerRounds) current) (done + k)
   squeeze-block n out ys current done k m before more least same e = record {
     inside = omega arith;
     long = omega (
@@ -243,7 +243,7 @@ module _ (w : Row) (pos : 0 < w .drawRate) (r : Record) where
   }
     where
       count : length ys ≡ k
-      count = ap length e ∙ length-bytesFrom k 0 (afterRun current .words)
+      count = ap length e ∙ length-bytesFrom k 0 (afterRun (w .innerRounds) current .words)
 
       front : length (take done out ++ ys) ≡ done + k
       front = omega (arith, length-append (take done out) ys, length-take-le done out (omega (arith, before .inside, before .long)), count)
@@ -254,8 +254,8 @@ module _ (w : Row) (pos : 0 < w .drawRate) (r : Record) where
       next : (r .drawn + done ≢ 0) × ((r .drawn + done) % w .drawRate ≡ 0)
       next = before .beyond more
 
-      drawn : (afterDrawing w (r .drawn + done) k current ≡ afterRun current) × (drawnBytes w (r .drawn + done) k current ≡ bytesFrom 0 k (afterRun current .words))
-      drawn = block-drawn k (r .drawn + done) 0 current (afterRun current) (ready-due w pos (r .drawn + done) current (next .0) (next .1)) (next .1)
+      drawn : (afterDrawing w (r .drawn + done) k current ≡ afterRun (w .innerRounds) current) × (drawnBytes w (r .drawn + done) k current ≡ bytesFrom 0 k (afterRun (w .innerRounds) current .words))
+      drawn = block-drawn k (r .drawn + done) 0 current (afterRun (w .innerRounds) current) (ready-due w pos (r .drawn + done) current (next .0) (next .1)) (next .1)
           (omega arith) (omega arith)
 
   -- all is written

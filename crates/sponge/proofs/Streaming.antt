@@ -4,13 +4,12 @@
 use mathlib.Core.Bool.{false}
 use mathlib.Core.Path.{_≡_, refl, sym, ap, _∙_}
 use mathlib.Core.List.{List, [], _∷_}
-use Prim.Native.Nat.{ℕ, _+_, _-_, _/_, _^_, _≤_, _<_}
+use Prim.Native.Nat.{ℕ, _+_, _-_, _*_, _/_, _^_, _≤_, _<_}
 use native.Mathlib.Omega.{arith}
-use native.Mathlib.Nat.{zero-add, zero-div, zero-mod, le-refl}
+use native.Mathlib.Nat.{zero-add, zero-div, zero-mod, le-refl, le-trans, mul-le-mul-right, mul-div-le}
 use lib.ListN.{length, take, drop}
 use Rattle.checks.specs.Equality.{same}
 use Rattle.mode.specs.declared.Mode.{Mode}
-use Rattle.mode.specs.declared.Mode.the-variants.{Prf, Mac, Hash, Xof}
 use Rattle.sponge.specs.declared.record.Record.{Record}
 use Rattle.mode.specs.Mode.{Row, row}
 use Rattle.sponge.specs.Sponge.{ceiling, start, absorbMessage, output, oneShot, runsFeeding, runsEnded}
@@ -53,8 +52,8 @@ module _ (w : Row) (feeds : 0 < w .feedRate) (draws : 0 < w .drawRate) (r : Reco
 
   -- d bytes drawn leave the record after (d - 1) / rate runs
   pub steps-record : (d : ℕ)
-      → afterDrawing w 0 d (endFeeding w (length m) (feedBytes w 0 m r)) ≡ afterRuns ((d - 1) / w .drawRate) (endFeeding w (length m) (feedBytes w 0 m r))
-  steps-record d = rw (feeding-ended w feeds m r) (rw (zero-div, zero-add, afterRuns-zero e (sum64-lt _ _)) at (afterDrawing-runs w draws d 0 e))
+      → afterDrawing w 0 d (endFeeding w (length m) (feedBytes w 0 m r)) ≡ afterRuns w ((d - 1) / w .drawRate) (endFeeding w (length m) (feedBytes w 0 m r))
+  steps-record d = rw (feeding-ended w feeds m r) (rw (zero-div, zero-add, afterRuns-zero w e (sum64-lt _ _)) at (afterDrawing-runs w draws d 0 e))
     where
       e : Record
       e = withFeeding false (withCore (absorbMessage w m (r .words)) (sum64 (r .runs) (length m / w .feedRate + 1)) r)
@@ -175,11 +174,14 @@ module _ (ticket : ℕ) (mode : Mode) (key m : List ℕ) where
 
 -- for lengths of 64 bits the formula never is more than 64 bits
 pub runs-fit : (mode : Mode) (n d : ℕ) → n < 2 ^ 64 → d < 2 ^ 64 → runsEnded (row mode) 1 n d < 2 ^ 64
-unfolding row runsEnded ceiling
-runs-fit Prf n d hn hd = omega arith
-runs-fit Mac n d hn hd = omega arith
-runs-fit Hash n d hn hd = omega arith
-runs-fit Xof n d hn hd = omega arith
+unfolding runsEnded
+runs-fit mode n d hn hd =
+    rw (blocks-drawn (row mode) (rates mode .draws) d)
+    (omega (arith, eighths n (row mode .feedRate) (rates mode .feeds-word), eighths (d - 1) (row mode .drawRate) (rates mode .draws-word)))
+  where
+    -- blocks of a word at least are an eighth of the bytes at most
+    eighths : (n R : ℕ) → 8 ≤ R → 8 * (n / R) ≤ n
+    eighths n R h = le-trans (mul-le-mul-right (n / R) h) (mul-div-le n R)
 
 -- the theorem, for the calls
 pub streaming-calls : StreamingCallsTheorem

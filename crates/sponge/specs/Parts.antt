@@ -12,7 +12,7 @@ use Rattle.sponge.specs.Record.{sum64, withCore, withFed, inWords, runIf
 
 -- a part of a block is fed at once: it goes to the places from p on, and a run follows where it fills the block
 unfoldable pub filled : Row → ℕ → List ℕ → Record → Record
-filled w p bs r = runIf (eqb (p + length bs) (w .feedRate)) (inWords (xorFrom p bs) r)
+filled w p bs r = runIf w (eqb (p + length bs) (w .feedRate)) (inWords (xorFrom p bs) r)
 
 -- how many bytes of the present block are drawn once d are drawn in all
 unfoldable pub used : Row → ℕ → ℕ

@@ -9,11 +9,11 @@ use lib.Dec.{eqb}
 use lib.ListN.{length, take, replicate}
 use Rattle.checks.specs.Equality.{same}
 use Rattle.word.specs.Bytes.{byteAt, bytesFrom, xorAt}
-use Rattle.permutation.specs.Permutation.{run}
+use Rattle.permutation.specs.Permutation.{permute}
 use Rattle.mode.specs.declared.Mode.{Mode}
 use Rattle.mode.specs.declared.Mode.the-variants.{Prf}
 use Rattle.sponge.specs.declared.record.Record.{Record}
-use Rattle.mode.specs.Mode.{Row, row}
+use Rattle.mode.specs.Mode.{outerRounds, Row, row}
 use Rattle.sponge.specs.Sponge.{initial, flipIf}
 
 -- a sum of 64 bits
@@ -42,31 +42,32 @@ withFeeding feeding r =
 unfoldable pub inWords : (List ℕ → List ℕ) → Record → Record
 inWords f r = withCore (f (r .words)) (r .runs) r
 
--- document 01's run: the words after it, and the count one higher. Nothing else raises the count
-unfoldable pub afterRun : Record → Record
-afterRun r = withCore (run (r .words)) (sum64 (r .runs) 1) r
+-- a run of n rounds: the words after it, and the count one higher, whatever n is. Nothing else raises the count
+unfoldable pub afterRun : ℕ → Record → Record
+afterRun n r = withCore (permute n (r .words)) (sum64 (r .runs) 1) r
 
-unfoldable pub runIf : Bool → Record → Record
-runIf due r = cond due (afterRun r) r
+-- a run between two blocks, by the row's rounds, where one is due
+unfoldable pub runIf : Row → Bool → Record → Record
+runIf w due r = cond due (afterRun (w .innerRounds) r) r
 
 -- ---- steps, over any row
 
 -- byte number n of the message is fed: it goes to its place in the block, and a run follows where that fills the block
 unfoldable pub feedByte : Row → ℕ → ℕ → Record → Record
-feedByte w n b r = runIf (eqb (suc (n % w .feedRate)) (w .feedRate)) (inWords (xorAt (n % w .feedRate) b) r)
+feedByte w n b r = runIf w (eqb (suc (n % w .feedRate)) (w .feedRate)) (inWords (xorAt (n % w .feedRate) b) r)
 
 -- bytes number n, n + 1, .. are fed
 unfoldable pub feedBytes : Row → ℕ → List ℕ → Record → Record
 feedBytes w n [] r = r
 feedBytes w n (b ∷ bs) r = feedBytes w (suc n) bs (feedByte w n b r)
 
--- feeding ends after n bytes: hex 80 goes to the next place, the lowest bit of x4 is flipped where the mode does so, and a run follows
+-- feeding ends after n bytes: hex 80 goes to the next place, the lowest bit of x4 is flipped where the mode does so, and a run of the outer rounds follows
 unfoldable pub endFeeding : Row → ℕ → Record → Record
-endFeeding w n r = withFeeding false (afterRun (inWords (flipIf (w .flips)) (inWords (xorAt (n % w .feedRate) 0x80) r)))
+endFeeding w n r = withFeeding false (afterRun outerRounds (inWords (flipIf (w .flips)) (inWords (xorAt (n % w .feedRate) 0x80) r)))
 
 -- before output byte number d is drawn: a run where it is the first byte beyond a block
 unfoldable pub ready : Row → ℕ → Record → Record
-ready w d r = runIf (not (eqb d 0) && eqb (d % w .drawRate) 0) r
+ready w d r = runIf w (not (eqb d 0) && eqb (d % w .drawRate) 0) r
 
 -- k output bytes from number d on, and the record after them
 unfoldable pub drawnBytes : Row → ℕ → ℕ → Record → List ℕ
@@ -83,10 +84,10 @@ afterDrawing w d (suc k) r = afterDrawing w (suc d) k (ready w d r)
 unfoldable pub vacant : Record
 vacant = record { words = replicate 5 0; runs = 0; ticket = 0; mode = Prf; fed = 0; drawn = 0; feeding = false }
 
--- a ticket's record as it is opened: the initial state, no run made; then one run
+-- a ticket's record as it is opened: the initial state, no run made; then one run of the outer rounds
 unfoldable pub fresh : ℕ → Mode → List ℕ → Record
 fresh ticket mode key =
-    afterRun (record { words = initial (row mode) key; runs = 0; ticket = ticket; mode = mode; fed = 0; drawn = 0; feeding = true })
+    afterRun outerRounds (record { words = initial (row mode) key; runs = 0; ticket = ticket; mode = mode; fed = 0; drawn = 0; feeding = true })
 
 -- bytes are fed
 unfoldable pub absorbed : List ℕ → Record → Record

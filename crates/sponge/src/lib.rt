@@ -1,4 +1,4 @@
-// The Ascon sponge, over the four modes: the record of a sponge that is not done yet, into which bytes are fed and from which output is drawn.
+// The Ascon sponge, in every mode: the record of a sponge that is not done yet, into which bytes are fed and from which output is drawn.
 mod record;
 
 pub use record::Record;

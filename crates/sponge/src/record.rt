@@ -39,7 +39,7 @@ impl Record {
         }
     }
 
-    // The record of a ticket just opened: the start word, the key and zeros, and one run. That the key has the mode's length is the caller's to test.
+    // The record of a ticket just opened: the start word, the key and zeros, and one run of the outer rounds. That the key has the mode's length is the caller's to test.
     pub fn fresh(ticket: u32, mode: Mode, key: &[u8]) -> Record
         ensures { λ r. ⌜ r ≡ spec.fresh ticket mode (now (key .entry)) ⌝ }
     {
@@ -61,16 +61,16 @@ impl Record {
             mode: mode,
             feeding: true,
         };
-        before.run()
+        before.run(Mode::OUTER_ROUNDS)
     }
 
-    // A run: the words after it, and the count one higher. Nothing else raises the count.
-    fn run(self) -> Record
-        ensures { λ r. ⌜ r ≡ spec.afterRun self ⌝ }
+    // A run of so many rounds: the words after it, and the count one higher. Nothing else raises the count.
+    fn run(self, rounds: u64) -> Record
+        ensures { λ r. ⌜ r ≡ spec.afterRun rounds self ⌝ }
     {
         let mode = self.mode;
         let before = self.words;
-        let after = permutation::permute(before);
+        let after = permutation::permute(before, rounds);
         Record {
             words: after,
             runs: std::num::wrapping_add_u64(self.runs, 1),

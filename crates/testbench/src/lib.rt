@@ -8,7 +8,7 @@ use sponge::Record;
 ghost use mathlib.Core.Path.{_≡_};
 ghost use mathlib.Core.List.{[], _∷_};
 ghost use lib.ListN.{length};
-ghost use Rattle.permutation.specs.Permutation.{at, run};
+ghost use Rattle.permutation.specs.Permutation.{at, permute};
 ghost use Rattle.permutation.specs.Row.{rowAnswer, rowAfter};
 ghost use Rattle.mode.specs.Mode.{named};
 ghost use Rattle.frame.specs.Frame.{sealAnswer, sealAfter, verifyAnswer};
@@ -20,19 +20,19 @@ ghost use Rattle.testbench.specs.Sponge.{partsAt, countsAt, spongeRuns, 
 #[no_mangle]
 pub extern "C" fn testbench_permute_row(row: &mut [u64]) -> u32
     ensures answer { λ r. ⌜ r ≡ rowAnswer (now (row .entry)) ⌝ }
-    ensures after { λ r. ⌜ now (row .exit) ≡ rowAfter run (now (row .entry)) ⌝ }
+    ensures after { λ r. ⌜ now (row .exit) ≡ rowAfter (permute 12) (now (row .entry)) ⌝ }
 {
     permutation::permute_row(row)
 }
 
-// x0 after so many permutations of the state x0, 0, 0, 0, 0. The state stays a value all the while: the cost is the permutation's own.
+// x0 after so many permutations of so many rounds each, of the state x0, 0, 0, 0, 0. The state stays a value all the while: the cost is the permutation's own.
 #[no_mangle]
-pub extern "C" fn testbench_permute_chain(x0: u64, times: u64) -> u64
-    ensures { λ r. ⌜ r ≡ at (repeated times run (x0 ∷ 0 ∷ 0 ∷ 0 ∷ 0 ∷ [])) 0 ⌝ }
+pub extern "C" fn testbench_permute_chain(x0: u64, rounds: u64, times: u64) -> u64
+    ensures { λ r. ⌜ r ≡ at (repeated times (permute rounds) (x0 ∷ 0 ∷ 0 ∷ 0 ∷ 0 ∷ [])) 0 ⌝ }
 {
     let mut s = [x0, 0, 0, 0, 0];
     for _ in 0..times {
-        let t = permutation::permute(s);
+        let t = permutation::permute(s, rounds);
         s = t;
     }
     s[0]

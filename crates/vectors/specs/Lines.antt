@@ -4,7 +4,7 @@ use mathlib.Core.List.{List, [], _∷_, _++_}
 use Prim.Native.Nat.{ℕ, zero, suc, _+_, _*_, _/_, _%_}
 use lib.ListN.{take}
 use Rattle.mode.specs.declared.Mode.{Mode}
-use Rattle.mode.specs.declared.Mode.the-variants.{Prf, Mac, Hash, Xof}
+use Rattle.mode.specs.declared.Mode.the-variants.{Prf, Mac, Hash, Xof, HashA, XofA}
 use Rattle.mode.specs.Mode.{row}
 use Rattle.sponge.specs.Sponge.{oneShot}
 use Rattle.prf_short.specs.Short.{prfShort}
@@ -38,11 +38,17 @@ modeSection heading bytes mode count = heading ++ lines (λ (i : ℕ). modeLine 
 unfoldable pub shortSection : List ℕ → List ℕ → List ℕ
 shortSection heading bytes = heading ++ lines (λ (i : ℕ). shortLine bytes (i / 16) (i % 16 + 1)) (17 * 16)
 
--- all sections, each under its name
-unfoldable pub vectorsOf : List ℕ → List ℕ
-vectorsOf bytes =
+-- all sections, each under its name: first the modes that take no key
+unfoldable pub unkeyedSections : List ℕ → List ℕ
+unkeyedSections bytes =
     modeSection (text "hash\n") bytes Hash 32
     ++ modeSection (text "xof\n") bytes Xof 64
+    ++ modeSection (text "hasha\n") bytes HashA 32
+    ++ modeSection (text "xofa\n") bytes XofA 64
+
+unfoldable pub vectorsOf : List ℕ → List ℕ
+vectorsOf bytes =
+    unkeyedSections bytes
     ++ modeSection (text "prf\n") bytes Prf 64
     ++ modeSection (text "mac\n") bytes Mac 16
     ++ shortSection (text "prf_short\n") bytes

@@ -1,4 +1,4 @@
-// Prints the outputs of the four modes and of the short function for messages of many lengths, whose bytes count up from 0. The stored output,
+// Prints the outputs of the six modes and of the short function for messages of many lengths, whose bytes count up from 0. The stored output,
 // crates/vectors/stdout, is the outside vectors: known answers that were not made with this code. All of it is put into one buffer, which is written once.
 use mode::Mode;
 use sponge::Record;
@@ -10,7 +10,7 @@ ghost use Rattle.sponge.specs.Sponge.{oneShot};
 ghost use Rattle.sponge.specs.Record.{absorbed};
 ghost use Rattle.script.specs.Text.{Wrote};
 ghost use Rattle.vectors.specs.Messages.{countingFrom, lengthOf};
-ghost use Rattle.vectors.specs.Lines.{line, modeLine, shortLine, modeSection, shortSection, vectors};
+ghost use Rattle.vectors.specs.Lines.{line, modeLine, shortLine, modeSection, unkeyedSections, shortSection, vectors};
 
 // The longest message.
 const LONGEST: usize = 1024;
@@ -144,21 +144,31 @@ fn put_short(text: &mut [u8], at: usize, heading: &[u8], bytes: &[u8]) -> usize
     next
 }
 
+// The modes that take no key.
+fn put_unkeyed(text: &mut [u8], at: usize, bytes: &[u8]) -> usize
+    requires { ⌜ 1024 ≤ length (now bytes) ⌝ }
+    ensures { λ r. ⌜ Wrote (now (text .entry)) at (unkeyedSections (now (bytes .entry))) (now (text .exit)) r ⌝ }
+{
+    let xof_at = put_mode(text, at, b"hash\n", bytes, Mode::Hash, 32);
+    let hasha_at = put_mode(text, xof_at, b"xof\n", bytes, Mode::Xof, 64);
+    let xofa_at = put_mode(text, hasha_at, b"hasha\n", bytes, Mode::HashA, 32);
+    put_mode(text, xofa_at, b"xofa\n", bytes, Mode::XofA, 64)
+}
+
 // All of it, from the start of the buffer on.
 fn put_vectors(text: &mut [u8]) -> usize
     ensures { λ r. ⌜ Wrote (now (text .entry)) 0 vectors (now (text .exit)) r ⌝ }
 {
     let bytes = counting();
-    let xof_at = put_mode(text, 0, b"hash\n", &bytes, Mode::Hash, 32);
-    let prf_at = put_mode(text, xof_at, b"xof\n", &bytes, Mode::Xof, 64);
+    let prf_at = put_unkeyed(text, 0, &bytes);
     let mac_at = put_mode(text, prf_at, b"prf\n", &bytes, Mode::Prf, 64);
     let short_at = put_mode(text, mac_at, b"mac\n", &bytes, Mode::Mac, 16);
     put_short(text, short_at, b"prf_short\n", &bytes)
 }
 
-// The buffer is longer than the text, which has 57,522 bytes.
+// The buffer is longer than the text, which has 85,397 bytes.
 fn main() {
-    let mut text = [0u8; 65536];
+    let mut text = [0u8; 98304];
     let end = put_vectors(&mut text);
     io::write_all(1, &text[..end]);
 }

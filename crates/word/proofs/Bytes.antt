@@ -5,13 +5,13 @@ use mathlib.Core.Path.{_≡_, refl, sym, ap, ap₂, _∙_, subst}
 use mathlib.Core.Bool.{true}
 use mathlib.Core.List.{List, [], _∷_, _++_}
 use Prim.Native.Nat.{ℕ, zero, suc, _+_, _-_, _*_, _/_, _%_, _^_, _≤_, _<_}
-use native.Mathlib.Nat.{mod-lt, add-mul, add-suc, add-zero, zero-add, suc-add, mul-assoc, zero-mul, zero-lt-suc, not-suc-le-zero, le-of-suc-le-suc}
+use native.Mathlib.Nat.{mod-lt, mod-one, mod-eq-of-lt, add-mul, add-suc, add-zero, zero-add, suc-add, mul-assoc, zero-mul, zero-lt-suc, not-suc-le-zero, le-of-suc-le-suc}
 use native.Mathlib.Omega.{arith}
 use borrow.Author.Tests.{eq-eqb}
 use lib.Arith.{bin-ind, digits-lt}
 use lib.Bits.{bitXor, bitOr, differ, xor-step, xor-shr, xor-mod, xor-shifted, xor-zero-r, or-shifted}
 use lib.Dec.{eqb}
-use lib.Pow.{pow-add, shl-lt, shl-exact}
+use lib.Pow.{pow-add, mod-pow-add, shl-lt, shl-exact}
 use lib.ListN.{length, getD, take, drop, replicate}
 use lib.Seq.{set-getD, getD-drop, take-at, ext-getD}
 use Rattle.word.specs.Bytes.{weight, byteAt, bytesFrom, xorWord, xorAt, xorFrom, window, fromBytes, toBytes}
@@ -85,6 +85,22 @@ unfolding toBytes
 number-bytes zero x i = omega arith
 number-bytes (suc n) x zero = omega arith
 number-bytes (suc n) x (suc i) = number-bytes n x i
+
+pub length-toBytes : (n x : ℕ) → length (toBytes n x) ≡ n
+unfolding toBytes
+length-toBytes zero x = refl
+length-toBytes (suc n) x = ap suc (length-toBytes n x)
+
+-- the number that they make
+number-low : (n x : ℕ) → fromBytes (toBytes n x) ≡ x % 2 ^ (8 * n)
+unfolding fromBytes toBytes
+number-low zero x = sym (mod-one x)
+number-low (suc n) x =
+    let e : 8 * suc n ≡ 8 + 8 * n = omega arith in
+    rw (length-toBytes n x, number-low n x, e) (sym (mod-pow-add x 8 (8 * n)))
+
+pub number-read : (n x : ℕ) → x < 2 ^ (8 * n) → fromBytes (toBytes n x) ≡ x
+number-read n x h = number-low n x ∙ mod-eq-of-lt h
 
 pub fromBytes-lt : (bs : List ℕ) → Bytes bs → fromBytes bs < 2 ^ (8 * length bs)
 unfolding fromBytes

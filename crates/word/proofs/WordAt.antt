@@ -12,7 +12,7 @@ use lib.Pow.{pow-add, pow-pos, shl-shr, shr-shr, shr-mod, mod-pow-add, mod-mod-p
 use lib.Seq.{getD-set-same, set-set}
 use Rattle.word.specs.Bytes.{weight, bytesFrom, xorWord, xorAt, xorFrom, window, toBytes, wordsOf, zerosTo}
 use Rattle.word.proofs.Lists.{set-past}
-use Rattle.word.proofs.Bytes.{xor-assoc, xor-joined, Bytes, append-bytes, zero-bytes, in-word, weight-in, bytesFrom-word, xorFrom-append, xorWord-zero, xorFrom-zeros}
+use Rattle.word.proofs.Bytes.{xor-assoc, xor-joined, Bytes, length-toBytes, append-bytes, zero-bytes, in-word, weight-in, bytesFrom-word, xorFrom-append, xorWord-zero, xorFrom-zeros}
 use Rattle.word.proofs.Windows.{words-xored, xorFrom-words}
 use Rattle.word.proofs.Xored.{words-read}
 
@@ -25,11 +25,6 @@ toBytes-split zero n x = rw zero-add
 toBytes-split (suc m) n x =
     let places : 8 * (m + n) ≡ 8 * n + 8 * m = omega arith in
     rw (suc-add, places, ← shr-shr x (8 * n) (8 * m), toBytes-split m n x) refl
-
-length-toBytes : (n x : ℕ) → length (toBytes n x) ≡ n
-unfolding toBytes
-length-toBytes zero x = refl
-length-toBytes (suc n) x = ap suc (length-toBytes n x)
 
 -- a shift to the left leaves the lowest digits
 shl-mod : (x b a : ℕ) → (x * 2 ^ a) % 2 ^ (b + a) ≡ x % 2 ^ b * 2 ^ a

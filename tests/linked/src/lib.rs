@@ -4,7 +4,7 @@
 #[rustfmt::skip]
 extern "C" {
     fn testbench_permute_row(row: *mut u64, length: usize) -> u32;
-    fn testbench_permute_chain(x0: u64, times: u64) -> u64;
+    fn testbench_permute_chain(x0: u64, rounds: u64, times: u64) -> u64;
     fn testbench_sponge(key: *const u8, key_length: usize, message: *const u8, message_length: usize, out: *mut u8, out_length: usize, mode: u32, cut: usize, first: usize) -> u64;
     fn testbench_tag(key: *const u8, key_length: usize, message: *const u8, message_length: usize, tag: *const u8, tag_length: usize) -> u32;
     fn testbench_seal_runs(key: *const u8, key_length: usize, frame: *mut u8, frame_length: usize, body: usize) -> u64;
@@ -23,10 +23,10 @@ pub fn permute_row(row: &mut [u64]) -> u32 {
     unsafe { testbench_permute_row(row.as_mut_ptr(), row.len()) }
 }
 
-/// x0 after so many permutations of the state x0, 0, 0, 0, 0.
-pub fn permute_chain(x0: u64, times: u64) -> u64 {
+/// x0 after so many permutations of so many rounds each, of the state x0, 0, 0, 0, 0.
+pub fn permute_chain(x0: u64, rounds: u64, times: u64) -> u64 {
     // SAFETY: it takes and gives numbers.
-    unsafe { testbench_permute_chain(x0, times) }
+    unsafe { testbench_permute_chain(x0, rounds, times) }
 }
 
 /// The output of a mode for a message, as much as is lent, and the runs made: the message is fed in two parts, and the output drawn in two.

@@ -2,7 +2,7 @@
 use linked::{feeds_by_value, feeds_in_place, parts_in_place};
 use reference::machine::{Call, Machine};
 use reference::numbers::Numbers;
-use reference::{permute, sponge, Mode, HASH, KEY, MAC, MODES};
+use reference::{permute, sponge, Mode, HASH, HASHA, KEY, MAC, MODES};
 
 /// What the plain machine answers a feed of no bytes with, after the same calls.
 fn expected(ticket: u32, bytes: &[u8], times: usize) -> u64 {
@@ -94,7 +94,7 @@ fn every_split_in_two() {
 #[test]
 fn every_split_in_three() {
     let message = Numbers(6).bytes(100);
-    for mode in [&MAC, &HASH] {
+    for mode in [&MAC, &HASH, &HASHA] {
         for n in 0..=100 {
             let parts =
                 (0..=n).flat_map(|first| (0..=n - first).map(move |second| (first, second)));
@@ -146,7 +146,7 @@ fn assert_refused(mode: u32, key: &[u8], lent: usize) {
 
 #[test]
 fn numbers_that_are_no_mode_are_refused() {
-    for number in [0, 5, 255, 257, 258, 259, 260, u32::MAX] {
+    for number in [0, 7, 8, 255, 257, 258, 259, 260, 261, 262, u32::MAX] {
         assert_refused(number, &KEY, 16);
         assert_refused(number, &[], 16);
     }

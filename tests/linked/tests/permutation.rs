@@ -3,7 +3,7 @@ use linked::{permute_chain, permute_row};
 use reference::numbers::Numbers;
 use reference::{assert_vectors, permute, vectors, HASH};
 
-/// Permutes a state by the linked function.
+/// Permutes a state by the linked function, which makes twelve rounds.
 fn permute_linked(state: &mut [u64; 5]) {
     assert_eq!(permute_row(state), 0);
 }
@@ -11,7 +11,7 @@ fn permute_linked(state: &mut [u64; 5]) {
 fn assert_agrees(state: [u64; 5]) {
     let (mut linked, mut expected) = (state, state);
     permute_linked(&mut linked);
-    permute(&mut expected);
+    permute(&mut expected, 12);
     assert_eq!(linked, expected, "permuting {state:016x?}");
 }
 
@@ -29,9 +29,14 @@ fn the_hash_state_after_its_first_run() {
     assert_eq!(state, printed);
 }
 
+/// Of runs that have fewer than twelve rounds the reference makes all.
 #[test]
 fn the_vectors() {
-    assert_vectors(permute_linked, &vectors());
+    let permute = |state: &mut [u64; 5], rounds| match rounds {
+        12 => permute_linked(state),
+        _ => permute(state, rounds),
+    };
+    assert_vectors(permute, &vectors());
 }
 
 #[test]
@@ -73,23 +78,27 @@ fn only_the_lent_words_change() {
     for start in 0..=10 {
         let (mut lent, mut expected) = (buffer.clone(), buffer.clone());
         assert_eq!(permute_row(&mut lent[start..start + 5]), 0);
-        permute((&mut expected[start..start + 5]).try_into().unwrap());
+        permute((&mut expected[start..start + 5]).try_into().unwrap(), 12);
         assert_eq!(lent, expected, "five words from {start} on");
     }
 }
 
+/// Of any number of rounds: more than twelve are twelve. 264 and 65,544 are 8 in their lowest bytes, and 2^32 is 0.
 #[test]
 fn chains_of_permutations() {
-    for x0 in [0, 1, HASH.start, u64::MAX] {
-        let mut state = [x0, 0, 0, 0, 0];
-        for times in 0..100 {
-            assert_eq!(permute_chain(x0, times), state[0], "{x0:x}, {times} times");
-            permute(&mut state);
+    for rounds in (0..=16).chain([255, 264, 65_544, 1 << 32, u64::MAX]) {
+        for x0 in [0, 1, HASH.start, u64::MAX] {
+            let mut state = [x0, 0, 0, 0, 0];
+            for times in 0..50 {
+                let given = permute_chain(x0, rounds, times);
+                assert_eq!(given, state[0], "{x0:x}, {times} times {rounds} rounds");
+                permute(&mut state, rounds.min(12) as usize);
+            }
         }
     }
     let mut state = [HASH.start, 0, 0, 0, 0];
     for _ in 0..65_537 {
-        permute(&mut state);
+        permute(&mut state, 12);
     }
-    assert_eq!(permute_chain(HASH.start, 65_537), state[0]);
+    assert_eq!(permute_chain(HASH.start, 12, 65_537), state[0]);
 }

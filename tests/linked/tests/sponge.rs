@@ -127,14 +127,15 @@ fn numbers_that_are_no_mode() {
     // 257 and the like are a mode's number in their lowest bits.
     for number in [
         0,
-        5,
-        6,
         7,
+        8,
         255,
         257,
         258,
         259,
         260,
+        261,
+        262,
         65_537,
         1 << 31,
         (1 << 31) + 3,

@@ -10,7 +10,7 @@ mod sponge;
 mod vectors;
 
 pub use permutation::permute;
-pub use sponge::{mac, prf_short, sponge, Mode, HASH, MAC, MODES, PRF, XOF};
+pub use sponge::{mac, prf_short, sponge, Mode, HASH, HASHA, MAC, MODES, PRF, XOF, XOFA};
 pub use vectors::{
     assert_vectors, counting, published, short_vectors, vectors, ShortVector, Vector, KEY,
 };

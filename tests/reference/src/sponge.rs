@@ -1,7 +1,8 @@
-//! The four modes over one sponge, and the short function.
+//! The six modes over one sponge, and the short function.
 use crate::permute;
 
-/// A mode of document 01, by its number: the start word, both rates and the most drawn in bytes, and whether it takes a key and flips a bit before the last block's run.
+/// A mode of document 01, by its number: the start word, both rates and the most drawn in bytes, whether it takes a key and flips a bit before the last block's run, and the rounds of every run
+/// but two: the first and the last block's have twelve.
 pub struct Mode {
     pub number: u32,
     pub start: u64,
@@ -9,6 +10,7 @@ pub struct Mode {
     pub draw_rate: usize,
     pub most_drawn: usize,
     pub keyed: bool,
+    pub inner_rounds: usize,
 }
 
 /// ASCON-PRF: "Ascon PRF, MAC, and Short-Input MAC" (source document 003), table 2, and its start value for output of any length.
@@ -19,6 +21,7 @@ pub const PRF: Mode = Mode {
     draw_rate: 16,
     most_drawn: 1_048_576,
     keyed: true,
+    inner_rounds: 12,
 };
 
 /// ASCON-MAC, the same with 128 bits of output.
@@ -37,6 +40,7 @@ pub const HASH: Mode = Mode {
     draw_rate: 8,
     most_drawn: 32,
     keyed: false,
+    inner_rounds: 12,
 };
 
 /// ASCON-XOF, the same with output of any length.
@@ -47,7 +51,23 @@ pub const XOF: Mode = Mode {
     ..HASH
 };
 
-pub const MODES: [&Mode; 4] = [&PRF, &MAC, &HASH, &XOF];
+/// ASCON-HASHA: algorithm 1 of 004 with a = 12, b = 8, and neither name nor customisation.
+pub const HASHA: Mode = Mode {
+    number: 5,
+    start: 0x00400c0400000100,
+    inner_rounds: 8,
+    ..HASH
+};
+
+/// ASCON-XOFA, the same with output of any length. Of its start value 004's table drops a digit, and algorithm 1 gives all.
+pub const XOFA: Mode = Mode {
+    number: 6,
+    start: 0x00400c0400000000,
+    most_drawn: 1_048_576,
+    ..HASHA
+};
+
+pub const MODES: [&Mode; 6] = [&PRF, &MAC, &HASH, &XOF, &HASHA, &XOFA];
 
 impl Mode {
     /// What an open names: the key, or nothing where the mode takes none.
@@ -66,9 +86,9 @@ impl Mode {
     }
 }
 
-/// The output of a mode for a message, and how many times the state was permuted, over any permutation of five words: so vectors try the one handed in.
+/// The output of a mode for a message, and how many times the state was permuted, over any permutation of five words that is told its rounds: so vectors try the one handed in.
 pub fn sponge(
-    permute: impl Fn(&mut [u64; 5]),
+    permute: impl Fn(&mut [u64; 5], usize),
     mode: &Mode,
     key: &[u8; 16],
     message: &[u8],
@@ -87,7 +107,7 @@ struct Sponge<P> {
     runs: u64,
 }
 
-impl<P: Fn(&mut [u64; 5])> Sponge<P> {
+impl<P: Fn(&mut [u64; 5], usize)> Sponge<P> {
     fn begin(permute: P, mode: &Mode, key: &[u8; 16]) -> Sponge<P> {
         let key = mode.given(key);
         let mut state = [0; 40];
@@ -98,12 +118,12 @@ impl<P: Fn(&mut [u64; 5])> Sponge<P> {
             state,
             runs: 0,
         };
-        sponge.run();
+        sponge.run(12);
         sponge
     }
 
-    fn run(&mut self) {
-        permute_bytes(&self.permute, &mut self.state);
+    fn run(&mut self, rounds: usize) {
+        permute_bytes(&self.permute, &mut self.state, rounds);
         self.runs += 1;
     }
 
@@ -115,11 +135,11 @@ impl<P: Fn(&mut [u64; 5])> Sponge<P> {
         let last = padded.split_off(padded.len() - mode.feed_rate);
         for block in padded.chunks(mode.feed_rate) {
             self.add(block);
-            self.run();
+            self.run(mode.inner_rounds);
         }
         self.add(&last);
         self.state[39] ^= u8::from(mode.keyed);
-        self.run();
+        self.run(12);
     }
 
     /// A block, added to the first bytes of the state.
@@ -132,7 +152,7 @@ impl<P: Fn(&mut [u64; 5])> Sponge<P> {
     fn squeeze(&mut self, mode: &Mode, length: usize) -> Vec<u8> {
         let mut output = self.state[..mode.draw_rate].to_vec();
         while output.len() < length {
-            self.run();
+            self.run(mode.inner_rounds);
             output.extend_from_slice(&self.state[..mode.draw_rate]);
         }
         output.truncate(length);
@@ -141,18 +161,18 @@ impl<P: Fn(&mut [u64; 5])> Sponge<P> {
 }
 
 /// The state as forty bytes, permuted.
-fn permute_bytes(permute: impl Fn(&mut [u64; 5]), state: &mut [u8; 40]) {
+fn permute_bytes(permute: impl Fn(&mut [u64; 5], usize), state: &mut [u8; 40], rounds: usize) {
     let mut words: [u64; 5] =
         std::array::from_fn(|i| u64::from_be_bytes(state[8 * i..][..8].try_into().unwrap()));
-    permute(&mut words);
+    permute(&mut words, rounds);
     for (bytes, word) in state.chunks_mut(8).zip(words) {
         bytes.copy_from_slice(&word.to_be_bytes());
     }
 }
 
-/// The short function, algorithm 3 of 003: an output of 1 to 16 bytes for a message of at most 16, over any permutation of five words.
+/// The short function, algorithm 3 of 003: an output of 1 to 16 bytes for a message of at most 16, over any permutation of five words that is told its rounds.
 pub fn prf_short(
-    permute: impl Fn(&mut [u64; 5]),
+    permute: impl Fn(&mut [u64; 5], usize),
     key: &[u8; 16],
     message: &[u8],
     length: usize,
@@ -164,7 +184,7 @@ pub fn prf_short(
     state[3] = 8 * length as u8;
     state[8..24].copy_from_slice(key);
     state[24..24 + message.len()].copy_from_slice(message);
-    permute_bytes(permute, &mut state);
+    permute_bytes(permute, &mut state, 12);
     let ends = state[40 - length..].iter().zip(&key[16 - length..]);
     ends.map(|(s, k)| s ^ k).collect()
 }

@@ -1,6 +1,7 @@
 //! The calls that the program `day` made and what it printed of them, each worked out anew by the plain machine. `rt ci` holds the program to the file that is read here.
 use reference::listing::{changes_found, parse, uses, wrong, Line};
 use reference::machine::Call;
+use reference::MODES;
 use std::collections::BTreeSet;
 use std::path::Path;
 
@@ -12,7 +13,7 @@ fn printed() -> String {
 #[test]
 fn every_answer_and_every_byte_is_the_plain_machines() {
     let text = printed();
-    assert_eq!(text.lines().count(), 306);
+    assert_eq!(text.lines().count(), 308);
     assert_eq!(wrong(&text), []);
 }
 
@@ -50,9 +51,19 @@ fn every_kind_of_call_and_refusal_occurs() {
 #[test]
 fn blocks_are_crossed_in_every_mode() {
     let uses = uses(&printed());
-    for (mode, block, drawn) in [(1, 32, 17), (2, 32, 12), (3, 8, 9), (4, 8, 9)] {
-        let most = uses[&mode].drawn.iter().max();
-        assert!(uses[&mode].fed > block && most >= Some(&drawn), "{mode}");
+    for mode in MODES {
+        let drawn = if mode.number == 2 {
+            12
+        } else {
+            mode.draw_rate + 1
+        };
+        let of_mode = uses.get(&mode.number).expect("a ticket of the mode");
+        let most = of_mode.drawn.iter().max();
+        assert!(
+            of_mode.fed > mode.feed_rate && most >= Some(&drawn),
+            "mode {}",
+            mode.number
+        );
     }
 }
 

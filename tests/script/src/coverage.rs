@@ -17,7 +17,9 @@ const ANSWERS: [(&str, &[&str]); 6] = [
 ];
 
 /// The calls that have a limit, and what may come there.
-const LIMITED: [&str; 5] = ["feed", "draw 1", "draw 2", "draw 3", "draw 4"];
+const LIMITED: [&str; 7] = [
+    "feed", "draw 1", "draw 2", "draw 3", "draw 4", "draw 5", "draw 6",
+];
 const AT_A_LIMIT: [&str; 4] = [
     "to the limit",
     "of nothing at the limit",

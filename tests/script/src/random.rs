@@ -1,6 +1,6 @@
 //! Random scripts, whole and damaged.
 use reference::numbers::Numbers;
-use reference::{MODES, PRF, XOF};
+use reference::{MODES, PRF, XOF, XOFA};
 
 mod damage;
 mod day;
@@ -12,9 +12,10 @@ use day::day_at_a_limit;
 pub fn script(seed: u64) -> Vec<u8> {
     let mut numbers = Numbers(seed);
     match seed % 1_000 {
-        500 => return day_at_a_limit(&mut numbers, MODES[(seed / 1_000 % 4) as usize], false),
+        500 => return day_at_a_limit(&mut numbers, MODES[(seed / 1_000 % 6) as usize], false),
         501 | 502 => return day_at_a_limit(&mut numbers, &PRF, true),
         503 | 504 => return day_at_a_limit(&mut numbers, &XOF, true),
+        505 | 506 => return day_at_a_limit(&mut numbers, &XOFA, true),
         _ => (),
     }
     let lines = match numbers.below(20) {

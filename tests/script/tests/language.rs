@@ -3,10 +3,12 @@
 use reference::script::field;
 use script::{assert_prints, assert_talk, Talk, OPEN_MAC, OPEN_PRF};
 
-/// What Ascon's authors print for no bytes: the MAC under the key 00 01 .. 0f, the hash, and the XOF.
+/// What Ascon's authors print for no bytes: the MAC under the key 00 01 .. 0f, both hashes, and both XOFs.
 const MAC: &str = "eb1af688825d66bf2d53e135f9323315";
 const HASH: &str = "7346bc14f036e87ae03d0997913088f5f68411434b3cf8b54fa796a80d251f91";
 const XOF: &str = "5d4cbde6350ea4c174bd65b5b332f8408f99740b81aa02735eaefbcf0ba0339e";
+const HASHA: &str = "aecd027026d0675f9de7a8ad8ccf512db64b1edcf0b20c388a0c7cc617aaa2c4";
+const XOFA: &str = "7c10dffd6bb03be262d72fbe1b0f530013c6c4eadaabde278d6f29d579e3908d";
 
 /// So many bytes, as a script has them.
 fn bytes(count: usize) -> String {
@@ -58,27 +60,31 @@ fn outputs_and_verdicts() {
         .line(format!("check 2 {}4", &MAC[..31]), "fail 2 -")
         .line("draw 2 0010", format!("ok 2 {MAC}"))
         .line(check(16), "pass 2 -");
-    // The XOF at once.
-    talk.line("open 4 -", "ok 3 -")
-        .line("draw 3 0020", format!("ok 5 {XOF}"))
-        .line("sum 0 -", "ok 12 -")
+    // The XOF at once, and the hash and the XOF that have shorter runs: each of these counts as one, too.
+    for (mode, ticket, output) in [(4, 3, XOF), (5, 4, HASHA), (6, 5, XOFA)] {
+        talk.line(format!("open {mode} -"), format!("ok {ticket} -"))
+            .line(format!("draw {ticket} 0020"), format!("ok 5 {output}"));
+    }
+    talk.line("sum 0 -", "ok 22 -")
         .line("close 2 -", "ok 2 -")
-        .line("close 1 -", "ok 5 -")
-        .line("close 3 -", "ok 5 -")
-        .line("sum 0 -", "ok 12 -");
-    talk.assert();
+        .line("close 1 -", "ok 5 -");
+    for ticket in 3..=5 {
+        talk.line(format!("close {ticket} -"), "ok 5 -");
+    }
+    talk.line("sum 0 -", "ok 22 -").assert();
 }
 
 #[test]
 fn refusal_1_no_mode() {
     let mut talk = Talk::default();
-    for mode in ["0", "5", "6", "257", "65537", "2147483651", "4294967295"] {
+    for mode in [0, 7, 8, 257, 261, 65_537, 2_147_483_651, u32::MAX] {
         // Before 2: of no mode is any key right.
         talk.line(format!("open {mode} -"), "no 1 -")
             .line(format!("open {mode} {}", bytes(16)), "no 1 -");
     }
     talk.lines(&[(OPEN_PRF, "ok 1 -"), (OPEN_MAC, "ok 2 -")])
         .lines(&[("open 3 -", "ok 3 -"), ("open 4 -", "ok 4 -")])
+        .lines(&[("open 5 -", "ok 5 -"), ("open 6 -", "ok 6 -")])
         .assert();
 }
 
@@ -87,14 +93,15 @@ fn refusal_2_key_length() {
     let keyed: &[usize] = &[0, 1, 8, 15, 17, 32, 1024];
     let unkeyed: &[usize] = &[1, 16, 1024];
     let mut talk = Talk::default();
-    for (mode, counts) in [(1, keyed), (2, keyed), (3, unkeyed), (4, unkeyed)] {
-        for count in counts {
+    for mode in 1..=6 {
+        for count in if mode <= 2 { keyed } else { unkeyed } {
             talk.line(format!("open {mode} {}", bytes(*count)), "no 2 -");
         }
     }
     talk.line(format!("open 1 {}", bytes(16)), "ok 1 -")
         .line(format!("open 2 {}", bytes(16)), "ok 2 -")
         .lines(&[("open 3 -", "ok 3 -"), ("open 4 -", "ok 4 -")])
+        .lines(&[("open 5 -", "ok 5 -"), ("open 6 -", "ok 6 -")])
         .assert();
 }
 
@@ -162,7 +169,7 @@ fn refusal_13_sixteen_open() {
     talk.line("open 3 -", "no 13 -")
         .line(OPEN_PRF, "no 13 -")
         // After 1 and 2.
-        .line("open 5 -", "no 1 -")
+        .line("open 7 -", "no 1 -")
         .line("open 1 -", "no 2 -")
         .line("sum 0 -", "ok 16 -");
     // Any place serves again, with the next number: refused opens have taken none.
@@ -189,7 +196,13 @@ fn refusal_15_feeding_has_ended() {
         ("open 4 -", "ok 3 -"),
         ("draw 3 0001", "ok 2 5d"),
         ("feed 3 00", "no 15 -"),
-        ("sum 0 -", "ok 6 -"),
+        ("open 5 -", "ok 4 -"),
+        ("draw 4 0001", "ok 2 ae"),
+        ("feed 4 00", "no 15 -"),
+        ("open 6 -", "ok 5 -"),
+        ("draw 5 0000", "ok 2 -"),
+        ("feed 5 00", "no 15 -"),
+        ("sum 0 -", "ok 10 -"),
     ]);
 }
 
@@ -203,26 +216,30 @@ fn refusal_17_too_much_drawn() {
         .line("draw 1 000f", format!("ok 2 {}", &MAC[..30]))
         .line("draw 1 0002", "no 17 -")
         .line("draw 1 0001", format!("ok 2 {}", &MAC[30..]))
-        .lines(&[("draw 1 0001", "no 17 -"), ("draw 1 0000", "ok 2 -")])
-        .line("open 3 -", "ok 2 -")
-        .line("draw 2 0021", "no 17 -")
-        .line("draw 2 0020", format!("ok 5 {HASH}"))
-        .lines(&[("draw 2 0001", "no 17 -"), ("draw 2 0000", "ok 5 -")])
-        .assert();
+        .lines(&[("draw 1 0001", "no 17 -"), ("draw 1 0000", "ok 2 -")]);
+    for (mode, ticket, output) in [(3, 2, HASH), (5, 3, HASHA)] {
+        talk.line(format!("open {mode} -"), format!("ok {ticket} -"))
+            .line(format!("draw {ticket} 0021"), "no 17 -")
+            .line(format!("draw {ticket} 0020"), format!("ok 5 {output}"))
+            .line(format!("draw {ticket} 0001"), "no 17 -")
+            .line(format!("draw {ticket} 0000"), "ok 5 -");
+    }
+    talk.assert();
 }
 
 #[test]
 fn refusal_18_no_mac() {
     let mut talk = Talk::default();
-    for (open, ticket) in [(OPEN_PRF, 1), ("open 3 -", 2), ("open 4 -", 3)] {
+    let opens = [OPEN_PRF, "open 3 -", "open 4 -", "open 5 -", "open 6 -"];
+    for (open, ticket) in opens.iter().zip(1..) {
         talk.line(open, format!("ok {ticket} -"))
             .line(format!("check {ticket} {}", bytes(16)), "no 18 -")
             // Before 4.
             .line(format!("check {ticket} -"), "no 18 -")
             .line(format!("feed {ticket} -"), "ok 1 -");
     }
-    talk.line(OPEN_MAC, "ok 4 -")
-        .line(format!("check 4 {}", bytes(16)), "fail 2 -")
+    talk.line(OPEN_MAC, "ok 6 -")
+        .line(format!("check 6 {}", bytes(16)), "fail 2 -")
         .assert();
 }
 

@@ -2,7 +2,7 @@
 use reference::machine::MOST_FED;
 use reference::numbers::Numbers;
 use reference::script::field;
-use reference::{permute, sponge, Mode, HASH, MAC, MODES, PRF, XOF};
+use reference::{permute, sponge, Mode, HASH, HASHA, MAC, MODES, PRF, XOF, XOFA};
 use script::{assert_agrees, assert_same, program, through_a_pipe, Talk};
 
 /// Counts that go up to a limit in uneven parts of at most `longest`, and whether each is accepted. At the end stand one more than is left and far more, all but one of it, two, the last one, one
@@ -106,6 +106,16 @@ fn the_hash_to_its_limits() {
 #[test]
 fn the_xof_to_its_limits() {
     to_the_limits(&XOF);
+}
+
+#[test]
+fn the_hasha_to_its_limits() {
+    to_the_limits(&HASHA);
+}
+
+#[test]
+fn the_xofa_to_its_limits() {
+    to_the_limits(&XOFA);
 }
 
 /// Ten thousand tickets, sixteen of them open at a time: each is fed and drawn from in turns with the others, a seventeenth is refused, and the place of any of them serves the next.

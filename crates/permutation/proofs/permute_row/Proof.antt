@@ -8,7 +8,7 @@ use lib.ListN.{length, getD, set, length-set}
 use mir.Syntax.{w64}
 use borrow.Author.Tests.{eq-eqb, ne-eqb}
 use Rattle.word.proofs.Arrays.{array-length, written-out}
-use Rattle.permutation.specs.Permutation.{run}
+use Rattle.permutation.specs.Permutation.{permute}
 use borrow.Author.Needs.{needs}
 use Rattle.permutation.proofs.permute_row.Statement.{statement}
 use Rattle.permutation.proofs.permute_row.Tie as tie
@@ -89,7 +89,7 @@ returns-2 c =
       simp test
           (stored row t five (array-length w64 5 t _ (c .permute .ok))
           ∙ c .permute .ensures
-          ∙ ap run (sym (written-out 5 row five))),
+          ∙ ap (permute 12) (sym (written-out 5 row five))),
     )
 
 pub permute-row-spec : {M : Type 1} → statement M

@@ -9,8 +9,8 @@ use lib.ListN.{length, getD}
 use borrow.Author.Needs.{needs}
 use Rattle.word.specs.Bytes.{bytesFrom, window, wordsOf}
 use Rattle.word.proofs.Bytes.{Bytes}
-use Rattle.permutation.specs.Permutation.{run}
-use Rattle.permutation.proofs.State.{run-state}
+use Rattle.permutation.specs.Permutation.{permute}
+use Rattle.permutation.proofs.State.{twelve-state}
 use Rattle.prf_short.specs.Short.{startWord, start, ended, prfShort}
 use Rattle.prf_short.proofs.Short.{started, last-xored, masked}
 use Rattle.prf_short.proofs.output.Statement.{statement}
@@ -72,7 +72,7 @@ returns c =
     let pre = begun .before .before .before .pre in
     let bytes : Bytes key = λ i. omega (arith, begun .before .before .shared-slice-known .given i) in
     let bytes′ : Bytes message = λ i. omega (arith, begun .before .shared-slice-known2 .given i) in
-    let s : List ℕ = run (wordsOf 5 (start key message t)) in
+    let s : List ℕ = permute 12 (wordsOf 5 (start key message t)) in
     let p : List ℕ = c .before .before .before .before .permute .result in
     let x0 : ℕ = c .before .before .before .before .before .before .before .before .before .word-of-bytes .result in
     let x1 : ℕ = c .before .before .before .before .before .before .before .before .word-of-bytes2 .result in
@@ -85,15 +85,15 @@ returns c =
     let first : c .before .before .before .before .before .start-word .result ≡ startWord (length message) t =
     c .before .before .before .before .before .start-word .ensures in
     let permuted : p ≡ s = c .before .before .before .before .permute .ensures
-    ∙ ap run (rw (first, k0, k1, m0, m1) (started key message t bytes bytes′ (pre .0) (pre .1) (pre .2))) in
+    ∙ ap (permute 12) (rw (first, k0, k1, m0, m1) (started key message t bytes bytes′ (pre .0) (pre .1) (pre .2))) in
     let copied : c .before .before .copy-bytes .last .1 .1 .0
     ≡ bytesFrom (40 - t) t (getD p 0 0 ∷ getD p 1 0 ∷ getD p 2 0 ∷ bitXor (getD p 3 0) x0 ∷ bitXor (getD p 4 0) x1
     ∷ []) = c .before .before .copy-bytes .ensures in
     let read : c .before .before .copy-bytes .last .1 .1 .0
     ≡ bytesFrom (40 - t) t (getD s 0 0 ∷ getD s 1 0 ∷ getD s 2 0 ∷ bitXor (getD s 3 0) (window 0 key 0) ∷ bitXor (getD s 4 0) (window 0 key 1)
     ∷ []) = copied ∙ rw (permuted, k0, k1) in
-    read ∙ ap (bytesFrom (40 - t) t) (masked s key (run-state (wordsOf 5 (start key message t)) .five) (pre .0))
-    ∙ last-xored s key t (run-state (wordsOf 5 (start key message t)) .five) bytes (pre .0) (pre .2)
+    read ∙ ap (bytesFrom (40 - t) t) (masked s key (twelve-state (wordsOf 5 (start key message t)) .five) (pre .0))
+    ∙ last-xored s key t (twelve-state (wordsOf 5 (start key message t)) .five) bytes (pre .0) (pre .2)
 
 pub output-spec : {M : Type 1} → statement M
 output-spec =

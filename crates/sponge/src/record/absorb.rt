@@ -116,7 +116,7 @@ impl Record {
         }
     }
 
-    // Bytes go to the block from a place on, and a run follows where they fill it.
+    // Bytes go to the block from a place on, and a run of the inner rounds follows where they fill it.
     fn fill(self, place: usize, bytes: &[u8]) -> Record
         requires { ⌜ place + length (now bytes) ≤ row (self .mode) .feedRate ⌝ }
         ensures { λ r. ⌜ r ≡ filled (row (self .mode)) place (now (bytes .entry)) self ⌝ }
@@ -127,12 +127,12 @@ impl Record {
         let mut current = self;
         current.words = after;
         if place + bytes.len() == mode.feed_rate() {
-            return current.run();
+            return current.run(mode.inner_rounds());
         }
         current
     }
 
-    // Feeding ends, if it lasts: hex 80, the flip in the modes that have it, and a run.
+    // Feeding ends, if it lasts: hex 80, the flip in the modes that have it, and a run of the outer rounds.
     pub fn finish(self) -> Record
         ensures { λ r. ⌜ r ≡ spec.finished self ⌝ }
     {
@@ -152,6 +152,6 @@ impl Record {
         let mut current = self;
         current.words = last;
         current.feeding = false;
-        current.run()
+        current.run(Mode::OUTER_ROUNDS)
     }
 }

@@ -25,6 +25,7 @@ impl Record {
     {
         let mode = self.mode;
         let rate = mode.draw_rate();
+        let rounds = mode.inner_rounds();
         let used = used_of_block(mode, self.drawn);
         let rest = state::shorter(rate - used, out.len());
         let words = self.words;
@@ -32,7 +33,7 @@ impl Record {
         let mut current = self;
         let mut done = rest;
         while done < out.len() {
-            current = current.run();
+            current = current.run(rounds);
             let end = done + state::shorter(rate, out.len() - done);
             let block = current.words;
             state::copy_bytes(block, 0, &mut out[done..end]);

@@ -7,16 +7,16 @@ use Prim.Native.Nat.{ℕ, suc, _+_, _-_, _≤_, _<_}
 use native.Mathlib.Nat.{sub-zero}
 use native.Mathlib.Omega.{arith}
 use borrow.Author.Needs.{needs}
-use Rattle.permutation.specs.Permutation.{at, run}
+use Rattle.permutation.specs.Permutation.{at, permute}
 use Rattle.testbench.specs.Chain.{repeated}
 use Rattle.testbench.proofs.testbench_permute_chain.Statement.{statement}
 use Rattle.testbench.proofs.testbench_permute_chain.Tie as tie
 
 abbrev Inv-loop : tie.InvT-loop
-Inv-loop x0 times s₀ counter₀ s counter = (counter ≤ times) × (repeated (times - counter) run s ≡ repeated times run s₀)
+Inv-loop x0 rounds times s₀ counter₀ s counter = (counter ≤ times) × (repeated (times - counter) (permute rounds) s ≡ repeated times (permute rounds) s₀)
 
 abbrev μ-loop : tie.MeasureT-loop
-μ-loop x0 times s₀ counter₀ s counter = times - counter
+μ-loop x0 rounds times s₀ counter₀ s counter = times - counter
 
 loop-holds : tie.Need-loop-holds Inv-loop μ-loop
 loop-holds c = (search needs, rw sub-zero)
@@ -31,17 +31,18 @@ loop-less : tie.Need-loop-less Inv-loop μ-loop
 loop-less c = search needs
 
 -- one, then those after it
-one-first : (n k : ℕ) (s : List ℕ) → k < n → repeated (n - (k + 1)) run (run s) ≡ repeated (n - k) run s
+one-first : (f : List ℕ → List ℕ) (n k : ℕ) (s : List ℕ) → k < n → repeated (n - (k + 1)) f (f s) ≡ repeated (n - k) f s
 unfolding repeated
-one-first n k s l =
+one-first f n k s l =
     let left : suc (n - (k + 1)) ≡ n - k = omega arith in
-    ap (λ (m : ℕ). repeated m run s) left
+    ap (λ (m : ℕ). repeated m f s) left
 
 loop-again : tie.Need-loop-again Inv-loop μ-loop
 loop-again c =
     let now = c .before .before .loop in
-    let times = c .before .before .before .args .times in
-    (omega arith, ap (repeated (times - (now .counter + 1)) run) (c .permute .ensures) ∙ one-first times (now .counter) (now .s) (omega arith) ∙ now .inv .1)
+    let a = c .before .before .before .args in
+    let f = permute (a .rounds) in
+    (omega arith, ap (repeated (a .times - (now .counter + 1)) f) (c .permute .ensures) ∙ one-first f (a .times) (now .counter) (now .s) (omega arith) ∙ now .inv .1)
 
 array-read-result : tie.Need-array-read-result Inv-loop μ-loop
 array-read-result c = search needs
@@ -50,8 +51,9 @@ returns : tie.Need-returns Inv-loop μ-loop
 unfolding repeated
 returns c =
     let last = c .before .loop in
-    let none : c .before .before .args .times - last .counter ≡ 0 = omega arith in
-    ap (λ (s : List ℕ). at s 0) (sym (ap (λ (k : ℕ). repeated k run (last .s)) none) ∙ last .inv .1)
+    let a = c .before .before .args in
+    let none : a .times - last .counter ≡ 0 = omega arith in
+    ap (λ (s : List ℕ). at s 0) (sym (ap (λ (k : ℕ). repeated k (permute (a .rounds)) (last .s)) none) ∙ last .inv .1)
 
 pub testbench-permute-chain-spec : {M : Type 1} → statement M
 testbench-permute-chain-spec =

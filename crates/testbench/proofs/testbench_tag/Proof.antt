@@ -18,7 +18,7 @@ use Rattle.testbench.proofs.testbench_tag.Tie as tie
 -- the verdict, by the one-shot MAC
 judged : (key message tag : List ℕ) → tagMatches tag (finished (absorbed message (fresh 1 Mac key)))
     ≡ same tag (take (length tag) (oneShot (row Mac) key message 16))
-unfolding tagMatches row
+unfolding tagMatches
 judged key message tag = ap (λ (b : List ℕ). same tag (take (length tag) b)) (calls-block 1 Mac key message)
 
 fresh-requires : tie.Need-fresh-requires

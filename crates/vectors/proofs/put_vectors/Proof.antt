@@ -1,19 +1,19 @@
 -- `vectors::put_vectors` meets its contract.
 -- Assumes nothing.
-use mathlib.Core.Path.{_≡_, sym}
-use native.Mathlib.Omega.{arith}
-use lib.ListN.{length}
 use Rattle.script.proofs.Texts.{wrote-more}
 use Rattle.vectors.specs.Lines.{vectorsOf, vectors}
 use borrow.Author.Needs.{needs}
 use Rattle.vectors.proofs.put_vectors.Statement.{statement}
 use Rattle.vectors.proofs.put_vectors.Tie as tie
 
-counted : (c : tie.After-counting) → length (c .counting .result) ≡ 1024
-counted c = search needs
-
 counting-requires : tie.Need-counting-requires
 counting-requires c κs = search needs
+
+slice-aggregate-put-unkeyed : tie.Need-slice-aggregate-put-unkeyed
+slice-aggregate-put-unkeyed c = search needs
+
+put-unkeyed-requires : tie.Need-put-unkeyed-requires
+put-unkeyed-requires c κs = search needs
 
 slice-aggregate-put-mode : tie.Need-slice-aggregate-put-mode
 slice-aggregate-put-mode c = search needs
@@ -33,32 +33,14 @@ slice-aggregate-put-mode-4 c = search needs
 put-mode-requires-2 : tie.Need-put-mode-requires-2
 put-mode-requires-2 c κs = search needs
 
-slice-aggregate-put-mode-5 : tie.Need-slice-aggregate-put-mode-5
-slice-aggregate-put-mode-5 c = search needs
-
-slice-aggregate-put-mode-6 : tie.Need-slice-aggregate-put-mode-6
-slice-aggregate-put-mode-6 c = search needs
-
-put-mode-requires-3 : tie.Need-put-mode-requires-3
-put-mode-requires-3 c κs = search needs
-
-slice-aggregate-put-mode-7 : tie.Need-slice-aggregate-put-mode-7
-slice-aggregate-put-mode-7 c = search needs
-
-slice-aggregate-put-mode-8 : tie.Need-slice-aggregate-put-mode-8
-slice-aggregate-put-mode-8 c = search needs
-
-put-mode-requires-4 : tie.Need-put-mode-requires-4
-put-mode-requires-4 c κs = search needs
-
 slice-aggregate-put-short : tie.Need-slice-aggregate-put-short
 slice-aggregate-put-short c = search needs
 
 slice-aggregate-put-short-2 : tie.Need-slice-aggregate-put-short-2
-slice-aggregate-put-short-2 c = sym (counted (c .before .before .before .before .before .before .before .before .before .before .before .before .before .before .before .before .before .before .before .before .before .before .before .before .before .before .before))
+slice-aggregate-put-short-2 c = search needs
 
 put-short-requires : tie.Need-put-short-requires
-put-short-requires c κs = omega (arith, counted (c .before .before .before .before .before .before .before .before .before .before .before .before .before .before .before .before .before .before .before .before .before .before .before .before .before .before .before))
+put-short-requires c κs = search needs
 
 same-length : tie.Need-same-length
 same-length c = search needs
@@ -66,13 +48,11 @@ same-length c = search needs
 returns : tie.Need-returns
 unfolding vectors vectorsOf
 returns c =
-    rw (c .before .before .before .before .before .before .before .before .before .before .before .before .before .before .before .before .before .before .before .before .before .before .before .before .before .before .before .before .before .before .counting .ensures) at
+    rw (c .before .before .before .before .before .before .before .before .before .before .before .before .before .before .before .before .before .before .before .before .before .before .before .counting .ensures) at
     (wrote-more
     (wrote-more
-    (wrote-more
-    (wrote-more (c .before .before .before .before .before .before .before .before .before .before .before .before .before .before .before .before .before .before .before .before .before .before .before .before .before .before .put-mode .ensures) (c .before .before .before .before .before .before .before .before .before .before .before .before .before .before .before .before .before .before .before .before .put-mode2 .ensures))
-    (c .before .before .before .before .before .before .before .before .before .before .before .before .before .before .put-mode3 .ensures))
-    (c .before .before .before .before .before .before .before .before .put-mode4 .ensures))
+    (wrote-more (c .before .before .before .before .before .before .before .before .before .before .before .before .before .before .before .before .before .before .before .before .put-unkeyed .ensures) (c .before .before .before .before .before .before .before .before .before .before .before .before .before .before .put-mode .ensures))
+    (c .before .before .before .before .before .before .before .before .put-mode2 .ensures))
     (c .before .before .put-short .ensures))
 
 pub put-vectors-spec : {M : Type 1} → statement M
@@ -80,18 +60,14 @@ put-vectors-spec =
     tie.close
     (tie.spec
     counting-requires
+    slice-aggregate-put-unkeyed
+    put-unkeyed-requires
     slice-aggregate-put-mode
     slice-aggregate-put-mode-2
     put-mode-requires
     slice-aggregate-put-mode-3
     slice-aggregate-put-mode-4
     put-mode-requires-2
-    slice-aggregate-put-mode-5
-    slice-aggregate-put-mode-6
-    put-mode-requires-3
-    slice-aggregate-put-mode-7
-    slice-aggregate-put-mode-8
-    put-mode-requires-4
     slice-aggregate-put-short
     slice-aggregate-put-short-2
     put-short-requires

@@ -138,7 +138,7 @@ impl Day<'_> {
             key = self.numbers.bytes(length);
         }
         if self.is_wrong() {
-            number = self.numbers.pick(&[0, 5, 257, 65_537, 4_294_967_295]);
+            number = self.numbers.pick(&[0, 7, 257, 65_537, 4_294_967_295]);
         }
         self.line_of_bytes("open", number, &key);
         let open = self.tickets.iter().filter(|t| t.open).count();

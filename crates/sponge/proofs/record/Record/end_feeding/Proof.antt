@@ -1,6 +1,6 @@
 -- `sponge::Record::end_feeding` meets its contract.
 -- Assumes nothing.
-use mathlib.Core.Path.{_≡_, ap, _∙_}
+use mathlib.Core.Path.{_≡_, refl, ap, _∙_}
 use Prim.Native.Nat.{ℕ, _%_}
 use Rattle.word.specs.Bytes.{xorAt}
 use Rattle.mode.specs.Mode.{row}
@@ -27,7 +27,7 @@ returns c =
     let r = c .before .before .before .before .before .args .self in
     let padded : c .before .before .xor-byte .result ≡ xorAt (r .fed % row (r .mode) .feedRate) 0x80 (r .words) =
     c .before .before .xor-byte .ensures ∙ ap (λ (k : ℕ). xorAt k 0x80 (r .words)) (c .before .before .before .feed-place .ensures) in
-    rw (c .run .ensures, c .before .flip .ensures, padded)
+    rw (c .run .ensures, c .before .flip .ensures, padded) refl
 
 pub end-feeding-spec : {M : Type 1} → statement M
 end-feeding-spec =

@@ -25,16 +25,19 @@ add-if1 c = omega (arith, rates (c .before .before .before .args .self .mode) .f
 feed-rate-requires : tie.Need-feed-rate-requires
 feed-rate-requires c κs = search needs
 
+inner-rounds-requires : tie.Need-inner-rounds-requires
+inner-rounds-requires c κs = search needs
+
 run-requires : tie.Need-run-requires
 run-requires c κs = search needs
 
 returns : tie.Need-returns
 unfolding filled runIf inWords
 returns c =
-    let a = c .before .before .before .before .before .before .args in
+    let a = c .before .before .before .before .before .before .before .args in
     let full : eqb (a .place + length (now (a .bytes))) (row (a .self .mode) .feedRate) ≡ true =
-    eq-eqb (a .place + length (now (a .bytes))) (row (a .self .mode) .feedRate) (omega (arith, c .before .before .feed-rate .ensures)) in
-    rw (full, c .run .ensures, c .before .before .before .xor-part .ensures)
+    eq-eqb (a .place + length (now (a .bytes))) (row (a .self .mode) .feedRate) (omega (arith, c .before .before .before .feed-rate .ensures)) in
+    rw (full, c .run .ensures, c .before .inner-rounds .ensures, c .before .before .before .before .xor-part .ensures)
 
 returns-2 : tie.Need-returns-2
 unfolding filled runIf inWords
@@ -51,6 +54,7 @@ fill-spec =
     xor-part-requires
     add-if1
     feed-rate-requires
+    inner-rounds-requires
     run-requires
     returns
     returns-2)

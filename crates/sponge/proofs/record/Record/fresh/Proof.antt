@@ -1,6 +1,6 @@
 -- `sponge::Record::fresh` meets its contract.
 -- Assumes nothing.
-use mathlib.Core.Path.{sym}
+use mathlib.Core.Path.{refl, sym}
 use native.Mathlib.Omega.{arith}
 use denote.Ref.{now}
 use lib.Seq.{length-take-le}
@@ -41,7 +41,7 @@ unfolding fresh
 returns c =
     let a = c .before .before .before .before .before .before .before .before .args in
     let bytes : Bytes (now (a .key)) = λ i. omega (arith, c .before .before .before .before .before .before .before .shared-slice-known .given i) in
-    rw (c .run .ensures, c .before .word-of-bytes2 .ensures, c .before .before .word-of-bytes .ensures, c .before .before .before .start-word .ensures, c .before .before .before .before .before .shorter .ensures, c .before .before .before .before .before .before .key-length .ensures, take-min (row (a .mode) .keyLength) (now (a .key)), initial-words (a .mode) (now (a .key)) bytes)
+    rw (c .run .ensures, c .before .word-of-bytes2 .ensures, c .before .before .word-of-bytes .ensures, c .before .before .before .start-word .ensures, c .before .before .before .before .before .shorter .ensures, c .before .before .before .before .before .before .key-length .ensures, take-min (row (a .mode) .keyLength) (now (a .key)), initial-words (a .mode) (now (a .key)) bytes) refl
 
 pub fresh-spec : {M : Type 1} → statement M
 fresh-spec =

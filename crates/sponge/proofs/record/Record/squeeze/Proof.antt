@@ -9,7 +9,7 @@ use lib.Seq.{length-take-le}
 use Rattle.word.specs.Bytes.{bytesFrom}
 use Rattle.sponge.specs.declared.record.Record.{Record}
 use Rattle.mode.specs.Mode.{row}
-use Rattle.sponge.specs.Record.{sum64, withDrawn, drawnBytes, afterDrawing, nextBytes, squeezed}
+use Rattle.sponge.specs.Record.{sum64, afterRun, withDrawn, drawnBytes, afterDrawing, nextBytes, squeezed}
 use Rattle.sponge.specs.Parts as parts
 use Rattle.mode.proofs.Modes.{rates}
 use Rattle.sponge.proofs.Parts.{Squeezing, used-within, front-written, squeeze-rest, squeeze-block, squeeze-all}
@@ -17,28 +17,31 @@ use Rattle.sponge.proofs.record.Record.squeeze.Statement.{statement}
 use Rattle.sponge.proofs.record.Record.squeeze.Tie as tie
 
 abbrev Inv-loop : tie.InvT-loop
-Inv-loop self out₀ rate used rest current₀ done₀ out current done = Squeezing (row (self .mode)) self (length out₀) out current done
+Inv-loop self out₀ rate rounds used rest current₀ done₀ out current done = Squeezing (row (self .mode)) self (length out₀) out current done
 
 abbrev μ-loop : tie.MeasureT-loop
-μ-loop self out₀ rate used rest current₀ done₀ out current done = length out₀ - done
+μ-loop self out₀ rate rounds used rest current₀ done₀ out current done = length out₀ - done
 
 draw-rate-requires : tie.Need-draw-rate-requires Inv-loop μ-loop
 draw-rate-requires c κs = search needs
+
+inner-rounds-requires : tie.Need-inner-rounds-requires Inv-loop μ-loop
+inner-rounds-requires c κs = search needs
 
 used-of-block-requires : tie.Need-used-of-block-requires Inv-loop μ-loop
 used-of-block-requires c κs = search needs
 
 sub-shorter : tie.Need-sub-shorter Inv-loop μ-loop
 sub-shorter c =
-    let r = c .before .before .before .args .self in
-    rw (c .used-of-block .ensures, c .before .draw-rate .ensures) (used-within (row (r .mode)) (rates (r .mode) .draws) (r .drawn))
+    let r = c .before .before .before .before .args .self in
+    rw (c .used-of-block .ensures, c .before .before .draw-rate .ensures) (used-within (row (r .mode)) (rates (r .mode) .draws) (r .drawn))
 
 shorter-requires : tie.Need-shorter-requires Inv-loop μ-loop
 shorter-requires c κs = search needs
 
 cast-copy-bytes : tie.Need-cast-copy-bytes Inv-loop μ-loop
 cast-copy-bytes c =
-    let r = c .before .before .before .before .before .args .self in
+    let r = c .before .before .before .before .before .before .args .self in
     omega (arith, c .before .before .used-of-block .ensures, used-within (row (r .mode)) (rates (r .mode) .draws) (r .drawn), rates (r .mode) .draws-inside)
 
 slice-relend-prefix-copy-bytes : tie.Need-slice-relend-prefix-copy-bytes Inv-loop μ-loop
@@ -47,16 +50,16 @@ slice-relend-prefix-copy-bytes c = omega (arith, c .before .shorter .ensures)
 slice-aggregate-copy-bytes : tie.Need-slice-aggregate-copy-bytes Inv-loop μ-loop
 slice-aggregate-copy-bytes c =
     let least = c .before .before .shorter in
-    sym (length-take-le (least .result) (c .before .before .before .before .before .before .args .out .now) (omega (arith, least .ensures)))
+    sym (length-take-le (least .result) (c .before .before .before .before .before .before .before .args .out .now) (omega (arith, least .ensures)))
 
 copy-bytes-requires : tie.Need-copy-bytes-requires Inv-loop μ-loop
 copy-bytes-requires c κs = search needs
 
 loop-holds : tie.Need-loop-holds Inv-loop μ-loop
 loop-holds c =
-    let a = c .before .before .before .before .before .before .before .before .before .args in
+    let a = c .before .before .before .before .before .before .before .before .before .before .args in
     let k = c .before .before .before .before .before .shorter .result in
-    let rate = c .before .before .before .before .before .before .before .draw-rate .ensures in
+    let rate = c .before .before .before .before .before .before .before .before .draw-rate .ensures in
     let used = c .before .before .before .before .before .before .used-of-block .ensures in
     let least : k ≡ min (row (a .self .mode) .drawRate - parts.used (row (a .self .mode)) (a .self .drawn)) (length (a .out .now)) =
     c .before .before .before .before .before .shorter .ensures ∙ ap₂ (λ (x y : ℕ). min (x - y) (length (a .out .now))) rate used in
@@ -95,7 +98,7 @@ less-left n done k rate room least some more h = omega arith
 loop-less : tie.Need-loop-less Inv-loop μ-loop
 loop-less c =
     let now = c .before .before .before .before .before .before .before .before .loop in
-    let rate : 0 < c .before .before .before .before .before .before .before .before .before .before .before .before .before .before .before .before .draw-rate .result = rw (c .before .before .before .before .before .before .before .before .before .before .before .before .before .before .before .before .draw-rate .ensures) (rates (c .before .before .before .before .before .before .before .before .before .before .before .before .before .before .before .before .before .before .args .self .mode) .draws) in
+    let rate : 0 < c .before .before .before .before .before .before .before .before .before .before .before .before .before .before .before .before .before .draw-rate .result = rw (c .before .before .before .before .before .before .before .before .before .before .before .before .before .before .before .before .before .draw-rate .ensures) (rates (c .before .before .before .before .before .before .before .before .before .before .before .before .before .before .before .before .before .before .before .args .self .mode) .draws) in
     less-left _ (now .done) (c .before .before .before .before .before .shorter2 .result) _ _
     (c .before .before .before .before .before .shorter2 .ensures) rate (omega arith)
     (rw (now .inv .long) at (c .before .before .before .before .before .before .before .loop-test .taken))
@@ -104,10 +107,11 @@ loop-again : tie.Need-loop-again Inv-loop μ-loop
 loop-again c =
     let copy = c .before .before in
     let k = c .before .before .before .before .before .shorter2 .result in
-    let run = c .before .before .before .before .before .before .run .ensures in
     let now = c .before .before .before .before .before .before .before .before .loop in
-    let rate = c .before .before .before .before .before .before .before .before .before .before .before .before .before .before .before .before .draw-rate .ensures in
-    let r = c .before .before .before .before .before .before .before .before .before .before .before .before .before .before .before .before .before .before .args .self in
+    let run = c .before .before .before .before .before .before .run .ensures
+    ∙ ap (λ (n : ℕ). afterRun n (now .current)) (c .before .before .before .before .before .before .before .before .before .before .before .before .before .before .before .before .inner-rounds .ensures) in
+    let rate = c .before .before .before .before .before .before .before .before .before .before .before .before .before .before .before .before .before .draw-rate .ensures in
+    let r = c .before .before .before .before .before .before .before .before .before .before .before .before .before .before .before .before .before .before .before .args .self in
     let same : now .done + k - now .done ≡ k = omega arith in
     let part : length (take (now .done + k - now .done) (drop (now .done) (now .out))) ≡ k =
     length-take-le _ (drop (now .done) (now .out)) (omega (
@@ -127,7 +131,7 @@ wrapping-add-u64-requires c κs = search needs
 
 same-length : tie.Need-same-length Inv-loop μ-loop
 same-length c =
-    let a = c .before .before .before .before .before .before .before .before .before .before .before .before .args in
+    let a = c .before .before .before .before .before .before .before .before .before .before .before .before .before .args in
     let k = c .before .before .before .before .before .before .before .before .shorter .result in
     let within : k ≤ length (a .out .now) = omega (arith, c .before .before .before .before .before .before .before .before .shorter .ensures) in
     let part : length (take k (a .out .now)) ≡ k = length-take-le k (a .out .now) within in
@@ -138,7 +142,7 @@ same-length c =
 returns : tie.Need-returns Inv-loop μ-loop
 unfolding squeezed nextBytes sum64
 returns c =
-    let a = c .before .before .before .before .before .before .before .before .before .before .before .before .args in
+    let a = c .before .before .before .before .before .before .before .before .before .before .before .before .before .args in
     let last = c .before .before .loop in
     let w = row (a .self .mode) in
     let count : _ ≡ length (a .out .now) = sym (last .inv .long) ∙ same-length c in
@@ -155,6 +159,7 @@ squeeze-spec =
     Inv-loop
     μ-loop
     draw-rate-requires
+    inner-rounds-requires
     used-of-block-requires
     sub-shorter
     shorter-requires
