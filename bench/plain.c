@@ -6,7 +6,7 @@
 
 static inline uint64_t rotate(uint64_t x, int n) { return x >> n | x << (64 - n); }
 
-/* The last so many of the twelve rounds. Every caller hands in a literal, so that the compiler knows how many. */
+/* The last so many of the twelve rounds. In every caller the number is a literal, or becomes one where `hash` is put into its two callers. */
 static inline void permute(uint64_t s[5], int rounds) {
     uint64_t x0 = s[0], x1 = s[1], x2 = s[2], x3 = s[3], x4 = s[4];
     for (int i = 12 - rounds; i < 12; i++) {

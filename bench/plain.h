@@ -9,7 +9,7 @@
 uint32_t plain_permute_row(uint64_t *row, size_t length);
 uint64_t plain_permute_chain(uint64_t x0, uint64_t times);
 
-/* Permutes five words, by eight rounds or by twelve. */
+/* Permutes five words, by eight rounds, or by twelve for any other number. */
 void plain_permute(uint64_t s[5], int rounds);
 
 /* Both hashes and the MAC of a message, 32 and 16 bytes; the answer is how many times the state was permuted. */

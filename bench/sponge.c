@@ -1,5 +1,5 @@
-/* The proved sponge beside the same in plain C: both hashes and the MAC of a long message. firmware.c has the MAC of short ones: testbench_sponge takes any mode, and cuts message and
- * output in two for the tests, and so does more than its peer, which a short message would show. */
+/* The proved sponge beside the same in plain C: both hashes and the MAC of a long message. firmware.c has the MAC of short ones: testbench_sponge takes any mode, and
+ * cuts message and output in two for the tests, and so does more than its peer, which a short message would show. */
 #include "testbench.h"
 #include "measure.h"
 #include "parts.h"

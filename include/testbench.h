@@ -22,7 +22,8 @@ extern "C" {
  * A `length` other than 5 is refused: the answer is 7, and the row stays as it is. */
 uint32_t testbench_permute_row(uint64_t *row, size_t length);
 
-/* Permutes the state x0, 0, 0, 0, 0 `times` times over and gives its first word. Each time has the last `rounds` of the twelve rounds; more than twelve means all. */
+/* Permutes the state x0, 0, 0, 0, 0 `times` times over, each time by the last `rounds` of the twelve rounds, and gives its first word.
+ * More than twelve rounds means all twelve. */
 uint64_t testbench_permute_chain(uint64_t x0, uint64_t rounds, uint64_t times);
 
 /* Writes `out_length` bytes of the output of a mode for a message, and gives how many times the state was permuted.
@@ -52,8 +53,8 @@ uint64_t testbench_feeds_in_place(uint32_t ticket, const uint8_t *bytes, size_t 
 /* Opens ticket 1 of a mode under a key in an empty hub; feeds it the message in three parts, the first of `first` bytes and the second of `second`, where a number
  * past the end is the end, in a hub that stays in its memory; draws `out_length` bytes into `out`; and gives the run count that the draw answers with.
  * By the checks of the calls modes 1 and 2 take a key of 16 bytes and modes 3 to 6 one of none, at most 16,777,216 bytes are fed, and of modes 1, 4 and 6 at most
- * 1,048,576 bytes are drawn, of mode 2 at most 16, of modes 3 and 5 at most 32. A feed that is refused is left out. Where the open or the draw is refused, the answer is 0,
- * and nothing is written. */
+ * 1,048,576 bytes are drawn, of mode 2 at most 16, of modes 3 and 5 at most 32. A feed that is refused is left out. Where the open or the draw is refused, the
+ * answer is 0, and nothing is written. */
 uint64_t testbench_parts_in_place(const uint8_t *key, size_t key_length, const uint8_t *message, size_t message_length, uint8_t *out, size_t out_length,
                                   uint32_t mode, size_t first, size_t second);
 

@@ -1,4 +1,5 @@
--- One ticket's bytes and verdicts on the plain machine: the MAC of no bytes under the key 00 01 .. 0f, which the checker computes, drawn in parts and checked.
+-- Bytes and verdicts on the plain machine, which the checker computes: the MAC of no bytes under the key 00 01 .. 0f, drawn in parts and checked, and where the output of
+-- each mode for no bytes begins, by the mode's number. They begin lines of crates/vectors/stdout.
 -- Assumes nothing.
 use mathlib.Core.Bool.{true, false}
 use mathlib.Core.Path.{_≡_, refl, sym, ap, _∙_}
@@ -58,3 +59,13 @@ pub drawn-bytes : map (λ (e : Event). e .response .buffer)
     ≡ [] ∷ (1 ∷ 0xeb ∷ 0x1a ∷ 0xf6 ∷ 5 ∷ []) ∷ (1 ∷ 2 ∷ 3 ∷ []) ∷ (0x88 ∷ 0x82 ∷ 3 ∷ []) ∷ []
 unfolding events machine emptyMachine openMachine openChecks named admit newEntry openCount total drawMachine ticketChecks drawChecks drawOwn standingOf entryOf placeOf find afterDraw put written outputOf oneShot output squeezeBytes squeezeBlocks absorbMessage absorbBlocks flipIf blocks cut pad start initial fromBytes toBytes wordsOf zerosTo ceiling xorFrom xorAt xorWord bytesFrom byteAt weight permute round diffuse substitute atEveryPlace sbox addConstant mix rotr column number word bit
 drawn-bytes = refl
+
+-- each number opens its mode
+pub numbered-outputs : map (λ (e : Event). e .response .buffer)
+    (events machine emptyMachine
+    (Open 1 key ∷ Open 2 key ∷ Open 3 [] ∷ Open 4 [] ∷ Open 5 [] ∷ Open 6 []
+    ∷ Draw 1 (0 ∷ 0 ∷ []) 0 2 ∷ Draw 2 (0 ∷ 0 ∷ []) 0 2 ∷ Draw 3 (0 ∷ 0 ∷ []) 0 2 ∷ Draw 4 (0 ∷ 0 ∷ []) 0 2 ∷ Draw 5 (0 ∷ 0 ∷ []) 0 2 ∷ Draw 6 (0 ∷ 0 ∷ []) 0 2 ∷ []))
+    ≡ [] ∷ [] ∷ [] ∷ [] ∷ [] ∷ []
+    ∷ (0x2a ∷ 0x76 ∷ []) ∷ (0xeb ∷ 0x1a ∷ []) ∷ (0x73 ∷ 0x46 ∷ []) ∷ (0x5d ∷ 0x4c ∷ []) ∷ (0xae ∷ 0xcd ∷ []) ∷ (0x7c ∷ 0x10 ∷ []) ∷ []
+unfolding events machine emptyMachine openMachine openChecks named admit newEntry openCount total drawMachine ticketChecks drawChecks drawOwn standingOf entryOf placeOf find afterDraw put written outputOf oneShot output squeezeBytes squeezeBlocks absorbMessage absorbBlocks flipIf blocks cut pad start initial fromBytes toBytes wordsOf zerosTo ceiling xorFrom xorAt xorWord bytesFrom byteAt weight permute round diffuse substitute atEveryPlace sbox addConstant mix rotr column number word bit
+numbered-outputs = refl

@@ -1,5 +1,5 @@
--- What holds of every row of the table of modes, and the modes that numbers name. The proofs above use these laws, and do not go mode by mode, but where
--- calls/proofs/Refusals.antt has the limits once more as literals.
+-- What holds of every row of the table of modes, and the modes that numbers name. Proofs of the crates above cite these laws and do not go mode by mode;
+-- calls/proofs/Refusals.antt alone does, to have the limits once more as literals.
 -- Assumes nothing.
 use mathlib.Core.Bool.{Bool, true, false, cond}
 use mathlib.Core.Logic.{_≢_}
@@ -44,7 +44,7 @@ pub record Limits (w : Row) : Type 0 where
   pub key : w .keyLength ≤ 16
   -- the most that any mode draws
   pub drawn : w .mostDrawn ≤ 1048576
-  -- no run has more rounds than the first
+  -- no run has more rounds than the first: a row says how many are made, and 13 would be 12
   pub rounds : w .innerRounds ≤ outerRounds
 
 pub limits : (mode : Mode) → Limits (row mode)

@@ -1,11 +1,13 @@
--- What the papers write into a start word, for the reader: a start word says again what stands in its row. "Ascon PRF, MAC, and Short-Input MAC" (source document 003)
--- has k ∥ r ∥ 2^7 + a ∥ 0^8 ∥ t, and "Additional Modes for Ascon" (source document 004) 0^8 ∥ r ∥ a ∥ a - b ∥ L, lengths in bits. Where the output has any length, that
--- of the output is 0.
+-- A start word says again what stands in its row, as the papers have it: "Ascon PRF, MAC, and Short-Input MAC" (source document 003) joins k ∥ r ∥ 2^7 + a ∥ 0^8 ∥ t,
+-- "Additional Modes for Ascon" (source document 004) 0^8 ∥ r ∥ a ∥ a - b ∥ L, with lengths in bits. Where the output may have any length, t and L are 0.
 -- Assumes nothing.
+use mathlib.Core.List.{[], _∷_, map}
 use mathlib.Core.Path.{_≡_, refl}
 use Prim.Native.Nat.{ℕ, _+_, _-_, _*_, _^_}
 use Rattle.mode.specs.declared.Mode.the-variants.{Prf, Mac, Hash, Xof, HashA, XofA}
-use Rattle.mode.specs.Mode.{outerRounds, Row, row}
+use Rattle.mode.specs.declared.Named.{Named}
+use Rattle.mode.specs.declared.Named.the-variants.{Is, NoMode}
+use Rattle.mode.specs.Mode.{outerRounds, Row, row, named}
 
 -- the rounds as the third byte has them, and the length of the output
 abbrev encoded : Row → ℕ → ℕ → ℕ
@@ -19,3 +21,22 @@ pub start-words :
     × (row HashA .startWord ≡ encoded (row HashA) outerRounds (8 * row HashA .mostDrawn))
     × (row XofA .startWord ≡ encoded (row XofA) outerRounds 0)
 start-words = (refl, refl, refl, refl, refl, refl)
+
+-- the start word of the mode that is named, or 0
+abbrev startNamed : Named → ℕ
+startNamed (Is mode) = row mode .startWord
+startNamed NoMode = 0
+
+-- by the numbers, 0 to 7: in all but start word and rounds modes 3 and 5 are alike, and 4 and 6
+pub numbered-start-words : map (λ (n : ℕ). startNamed (named n)) (0 ∷ 1 ∷ 2 ∷ 3 ∷ 4 ∷ 5 ∷ 6 ∷ 7 ∷ [])
+    ≡ 0
+    ∷ 0x8080_8c00_0000_0000
+    ∷ 0x8080_8c00_0000_0080
+    ∷ 0x0040_0c00_0000_0100
+    ∷ 0x0040_0c00_0000_0000
+    ∷ 0x0040_0c04_0000_0100
+    ∷ 0x0040_0c04_0000_0000
+    ∷ 0
+    ∷ []
+unfolding named
+numbered-start-words = refl

@@ -1,4 +1,4 @@
--- The table of the modes: a mode is its row, and has the number that stands before it. Rows 1 to 4 are document 01's "Four modes", rows 5 and 6 request K1's
+-- The table of the modes: a mode is its row, and has a number. Rows 1 to 4 are document 01's "Four modes", rows 5 and 6 request K1's
 -- ASCON-HASHA and ASCON-XOFA. In the table of start words of "Additional Modes for Ascon" (source document 004) a digit of XOFA's is missing.
 -- Assumes nothing.
 use mathlib.Core.Bool.{Bool, true, false, cond}

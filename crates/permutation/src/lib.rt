@@ -1,11 +1,11 @@
-// The Ascon permutation: a state of five 64-bit words that goes by value through twelve rounds, or through the last of them.
+// The Ascon permutation: a state of five 64-bit words that goes by value through twelve rounds, or through the last n of them.
 ghost use mathlib.Core.Path.{_≡_};
 ghost use Prim.Native.Nat.{_-_, _<_};
 ghost use Rattle.word.specs.Word.{rotr};
 ghost use Rattle.permutation.specs.Permutation as spec;
 ghost use Rattle.permutation.specs.Row.{rowAnswer, rowAfter};
 
-// All of the rounds.
+// How many rounds there are.
 pub const ROUNDS: u64 = 12;
 
 // Document 01's refusal 7: the row is not of five words.
@@ -74,7 +74,7 @@ fn round(s: [u64; 5], i: u64) -> [u64; 5]
     diffuse(substitute([s[0], s[1], s[2] ^ c, s[3], s[4]]))
 }
 
-// The first of the last n rounds: round 0 where there are no more than n.
+// The number of the first of the last n rounds: 12 where n is 0, so that there is none, and 0 where n is twelve or more.
 fn first_round(n: u64) -> u64
     ensures { λ r. ⌜ r ≡ 12 - n ⌝ }
 {

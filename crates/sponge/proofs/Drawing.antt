@@ -99,7 +99,7 @@ bytes-values k (suc n) ws = rw (bytes-values (suc k) n ws)
 
 -- ---- several runs
 
--- k runs between blocks of a state, one after the other
+-- k runs of the inner rounds of a state, one after the other
 unfoldable pub runTimes : Row → ℕ → List ℕ → List ℕ
 runTimes w zero s = s
 runTimes w (suc k) s = permute (w .innerRounds) (runTimes w k s)

@@ -1,7 +1,7 @@
--- One output of each mode, which the checker computes. Of the PRF, the hash and the XOF: of a message that fills a block, so that a block of padding follows it, and with a
--- byte more than a block of output has. Of the MAC: of 40 bytes, more than one block, so that another feed rate gives another tag. Of the lighter hash and XOF: of more than
--- two blocks, and more than two blocks of output, so that the first run, those between blocks, the one after the last, and those while drawing all count. The theorem on
--- streaming holds for any row; these hold the rows of the table. Each begins a line of crates/vectors/stdout.
+-- One output of each mode, which the checker computes. Of the PRF, the hash and the XOF: of a message that fills a block, so that a block of padding follows it, and
+-- with a byte more than a block of output has. Of the MAC: of 40 bytes, more than one block, so that another feed rate gives another tag. Of the lighter hash and XOF:
+-- of more than two blocks, with more than two blocks of output, so that another number of rounds in any run gives another output. The theorem on streaming holds for
+-- any row; these hold the rows of the table. Each begins a line of crates/vectors/stdout.
 -- Assumes nothing.
 use mathlib.Core.List.{List, [], _∷_, _++_}
 use mathlib.Core.Path.{_≡_, refl}

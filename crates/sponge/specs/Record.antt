@@ -46,7 +46,7 @@ inWords f r = withCore (f (r .words)) (r .runs) r
 unfoldable pub afterRun : ℕ → Record → Record
 afterRun n r = withCore (permute n (r .words)) (sum64 (r .runs) 1) r
 
--- a run between two blocks, by the row's rounds, where one is due
+-- a run between two blocks, by the row's inner rounds, where one is due
 unfoldable pub runIf : Row → Bool → Record → Record
 runIf w due r = cond due (afterRun (w .innerRounds) r) r
 

@@ -1,6 +1,7 @@
 -- The sponge as the papers have it: Algorithm 1 of "Ascon PRF, MAC, and Short-Input MAC" (source document 003) and, for hashing, Algorithm 1 of "Additional Modes
--- for Ascon" (source document 004) with no name and no customisation. One definition for every mode, over the row of its table. Their symbols stand in brackets:
--- [p^a] has the outer rounds, twelve, as every run of 003 has; 004's [p^b] has the row's inner rounds. A state is a list of five words, and read as bytes begins with the top byte of x0.
+-- for Ascon" (source document 004) with no name and no customisation, of which the hashing steps of the slides "ASCON" (source document 001) are the case b = a. One
+-- definition for every mode, over the row of its table. Their symbols stand in brackets: [p^a] has the outer rounds, twelve, as every run of 003 has; 004's [p^b] has
+-- the row's inner rounds. A state is a list of five words, and read as bytes begins with the top byte of x0.
 -- Assumes nothing.
 use mathlib.Core.Bool.{Bool, cond}
 use mathlib.Core.List.{List, [], _∷_, _++_}
@@ -81,7 +82,7 @@ output w s m d = squeezeBytes w d (absorbMessage w m s)
 unfoldable pub oneShot : Row → List ℕ → List ℕ → ℕ → List ℕ
 oneShot w key m d = output w (start w key .state) m d
 
--- ---- document 01's run counts, for n bytes fed and d drawn, so many runs having been made `before`, where feeding starts
+-- ---- document 01's run counts, for n bytes fed and d drawn, with `before` runs made where feeding starts
 
 -- while feeding lasts
 unfoldable pub runsFeeding : Row → ℕ → ℕ → ℕ

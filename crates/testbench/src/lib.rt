@@ -25,7 +25,7 @@ pub extern "C" fn testbench_permute_row(row: &mut [u64]) -> u32
     permutation::permute_row(row)
 }
 
-// x0 after so many permutations of so many rounds each, of the state x0, 0, 0, 0, 0. The state stays a value all the while: the cost is the permutation's own.
+// x0 after the state x0, 0, 0, 0, 0 was permuted `times` times, by `rounds` rounds each. The state stays a value all the while: the cost is the permutation's own.
 #[no_mangle]
 pub extern "C" fn testbench_permute_chain(x0: u64, rounds: u64, times: u64) -> u64
     ensures { λ r. ⌜ r ≡ at (repeated times (permute rounds) (x0 ∷ 0 ∷ 0 ∷ 0 ∷ 0 ∷ [])) 0 ⌝ }

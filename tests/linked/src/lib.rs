@@ -23,7 +23,7 @@ pub fn permute_row(row: &mut [u64]) -> u32 {
     unsafe { testbench_permute_row(row.as_mut_ptr(), row.len()) }
 }
 
-/// x0 after so many permutations of so many rounds each, of the state x0, 0, 0, 0, 0.
+/// x0 after the state x0, 0, 0, 0, 0 was permuted `times` times, by `rounds` rounds each.
 pub fn permute_chain(x0: u64, rounds: u64, times: u64) -> u64 {
     // SAFETY: it takes and gives numbers.
     unsafe { testbench_permute_chain(x0, rounds, times) }

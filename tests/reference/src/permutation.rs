@@ -1,4 +1,4 @@
-//! The permutation: twelve rounds, or the last of them, by the printed tables.
+//! The permutation: twelve rounds, or the last n of them, by the printed tables.
 
 /// Table 3 of "Ascon PRF, MAC, and Short-Input MAC" (source document 003), as printed.
 const ROUND_CONSTANTS: [u64; 12] = [
@@ -14,7 +14,8 @@ const S_BOX: [u8; 32] = [
 /// How far the two copies of each word are rotated right.
 const ROTATIONS: [[u32; 2]; 5] = [[19, 28], [61, 39], [1, 6], [10, 17], [7, 41]];
 
-/// So many rounds, at most twelve. They have the last of the constants, as the slides "ASCON" (source document 001) print: eight rounds have those of rounds 4 to 11.
+/// So many rounds, at most twelve. They have the last of the constants, as the slides "ASCON" (source document 001) have it: eight rounds have those of rounds 4
+/// to 11.
 pub fn permute(state: &mut [u64; 5], rounds: usize) {
     for constant in &ROUND_CONSTANTS[12 - rounds..] {
         state[2] ^= constant;

@@ -1,8 +1,8 @@
 //! The six modes over one sponge, and the short function.
 use crate::permute;
 
-/// A mode of document 01, by its number: the start word, both rates and the most drawn in bytes, whether it takes a key and flips a bit before the last block's run, and the rounds of every run
-/// but two: the first and the last block's have twelve.
+/// A mode of document 01 or of change request K1, by its number: the start word, both rates and the most drawn in bytes, whether it takes a key and flips a bit before
+/// the last block's run, and the rounds of every run but two: the first and the last block's have twelve.
 pub struct Mode {
     pub number: u32,
     pub start: u64,
@@ -86,7 +86,8 @@ impl Mode {
     }
 }
 
-/// The output of a mode for a message, and how many times the state was permuted, over any permutation of five words that is told its rounds: so vectors try the one handed in.
+/// The output of a mode for a message, and how many times the state was permuted, over any permutation of five words that is told its rounds: so vectors try the one
+/// handed in.
 pub fn sponge(
     permute: impl Fn(&mut [u64; 5], usize),
     mode: &Mode,

@@ -127,7 +127,12 @@ impl Record {
         let mut current = self;
         current.words = after;
         if place + bytes.len() == mode.feed_rate() {
-            return current.run(mode.inner_rounds());
+            let rounds = mode.inner_rounds();
+            // Only for time: a run of a literal number of rounds gets a loop of its own, which does not wait for the mode.
+            if rounds == Mode::INNER_ROUNDS {
+                return current.run(Mode::INNER_ROUNDS);
+            }
+            return current.run(rounds);
         }
         current
     }

@@ -1,15 +1,18 @@
 -- `sponge::Record::fill` meets its contract.
 -- Assumes nothing.
 use mathlib.Core.Path.{_≡_}
-use mathlib.Core.Bool.{true, false}
-use Prim.Native.Nat.{_+_}
+use mathlib.Core.Bool.{false}
+use mathlib.Core.List.{List}
+use Prim.Native.Nat.{ℕ, _+_}
 use native.Mathlib.Omega.{arith}
 use borrow.Author.Tests.{eq-eqb, ne-eqb}
 use denote.Ref.{now}
 use lib.Dec.{eqb}
 use lib.ListN.{length}
-use Rattle.mode.specs.Mode.{row}
-use Rattle.sponge.specs.Record.{inWords, runIf}
+use Rattle.word.specs.Bytes.{xorFrom}
+use Rattle.mode.specs.Mode.{Row, row}
+use Rattle.sponge.specs.declared.record.Record.{Record}
+use Rattle.sponge.specs.Record.{inWords, afterRun, runIf}
 use Rattle.sponge.specs.Parts.{filled}
 use Rattle.mode.proofs.Modes.{rates}
 use borrow.Author.Needs.{needs}
@@ -31,17 +34,34 @@ inner-rounds-requires c κs = search needs
 run-requires : tie.Need-run-requires
 run-requires c κs = search needs
 
+-- where the block is full, a run of the row's inner rounds follows
+full : (w : Row) (p : ℕ) (bs : List ℕ) (r : Record) (n : ℕ) → p + length bs ≡ w .feedRate → n ≡ w .innerRounds
+    → afterRun n (inWords (xorFrom p bs) r) ≡ filled w p bs r
+unfolding filled runIf
+full w p bs r n e rounds = rw (eq-eqb (p + length bs) (w .feedRate) e, rounds)
+
 returns : tie.Need-returns
-unfolding filled runIf inWords
+unfolding inWords
 returns c =
-    let a = c .before .before .before .before .before .before .before .args in
-    let full : eqb (a .place + length (now (a .bytes))) (row (a .self .mode) .feedRate) ≡ true =
-    eq-eqb (a .place + length (now (a .bytes))) (row (a .self .mode) .feedRate) (omega (arith, c .before .before .before .feed-rate .ensures)) in
-    rw (full, c .run .ensures, c .before .inner-rounds .ensures, c .before .before .before .before .xor-part .ensures)
+    let a = c .before .before .before .before .before .before .before .before .args in
+    rw (c .run .ensures, c .before .before .before .before .before .xor-part .ensures)
+    (full (row (a .self .mode)) (a .place) (now (a .bytes)) (a .self) 12
+    (omega (arith, c .before .before .before .before .feed-rate .ensures)) (omega (arith, c .before .before .inner-rounds .ensures)))
+
+run-requires-2 : tie.Need-run-requires-2
+run-requires-2 c κs = search needs
 
 returns-2 : tie.Need-returns-2
-unfolding filled runIf inWords
+unfolding inWords
 returns-2 c =
+    let a = c .before .before .before .before .before .before .before .before .args in
+    rw (c .run2 .ensures, c .before .before .before .before .before .xor-part .ensures)
+    (full (row (a .self .mode)) (a .place) (now (a .bytes)) (a .self) (c .before .before .inner-rounds .result)
+    (omega (arith, c .before .before .before .before .feed-rate .ensures)) (c .before .before .inner-rounds .ensures))
+
+returns-3 : tie.Need-returns-3
+unfolding filled runIf inWords
+returns-3 c =
     let a = c .before .before .before .before .before .args in
     let part : eqb (a .place + length (now (a .bytes))) (row (a .self .mode) .feedRate) ≡ false =
     ne-eqb (a .place + length (now (a .bytes))) (row (a .self .mode) .feedRate) (λ e. omega (arith, c .before .feed-rate .ensures)) in
@@ -57,4 +77,6 @@ fill-spec =
     inner-rounds-requires
     run-requires
     returns
-    returns-2)
+    run-requires-2
+    returns-2
+    returns-3)
