@@ -12,7 +12,7 @@ use lib.ListN.{length, drop}
 use Rattle.mode.specs.declared.Mode.the-variants.{Prf}
 use Rattle.mode.specs.declared.Named.{Named}
 use Rattle.mode.specs.declared.Named.the-variants.{Is, NoMode}
-use Rattle.mode.specs.Mode.{named}
+use Rattle.mode.specs.Mode.{row, named}
 use Rattle.calls.specs.declared.Answer.{Answer}
 use Rattle.calls.specs.Answer.{counted, judged}
 use Rattle.checks.specs.Checks.{OneCheck, checked}
@@ -44,7 +44,7 @@ abbrev idle : Act
 idle = record { lent = []; further = λ s. []; after = λ e. e; answer = λ e. counted 0; buffer = λ e. [] }
 
 abbrev actOf : Call → Act
-actOf (Open mode key) = idle
+actOf (Open mode key length) = idle
 actOf (Feed t bytes) =
     record { lent = []; further = λ s. feedOwn s bytes; after = afterFeed bytes; answer = λ e. counted (runsOf (afterFeed bytes e)); buffer = λ e. [] }
 actOf (Draw t buffer place count) =
@@ -60,7 +60,7 @@ actOf (Check t tag) =
       lent = [];
       further = λ s. checkOwn s tag;
       after = afterDraw 0;
-      answer = λ e. judged (same tag (outputOf (afterDraw 0 e) (length tag))) (runsOf (afterDraw 0 e));
+      answer = λ e. judged (same tag (outputOf (afterDraw 0 e) (row (e .mode) .mostDrawn))) (runsOf (afterDraw 0 e));
       buffer = λ e. [];
     }
 actOf (Close t) = record { lent = []; further = λ s. []; after = afterClose; answer = λ e. counted (runsOf (afterClose e)); buffer = λ e. [] }
@@ -69,7 +69,7 @@ actOf Sum = idle
 -- an entry keeps its number
 keeps : (c : Call) (e : Entry) → actOf c .after e .number ≡ e .number
 unfolding afterFeed afterDraw afterClose
-keeps (Open mode key) e = refl
+keeps (Open mode key length) e = refl
 keeps (Feed t bytes) e = refl
 keeps (Draw t buffer place count) e = refl
 keeps (Check t tag) e = refl
@@ -92,8 +92,8 @@ onMachine a t m = checked (refuse m (a .lent)) (checksOf a (standingOf t m)) (st
 
 -- a call that names t is its act on t
 names-act : (t : ℕ) (c : Call) (m : Machine) → names t c ≡ true → machine c m ≡ onMachine (actOf c) t m
-unfolding machine feedMachine drawMachine checkMachine closeMachine ticketChecks feedChecks drawChecks checkChecks
-names-act t (Open mode key) m h = absurd (false≢true h)
+unfolding machine feedMachine drawMachine checkMachine closeMachine ticketChecks feedChecks drawChecks checkChecks afterDraw
+names-act t (Open mode key length) m h = absurd (false≢true h)
 names-act t (Feed u bytes) m h = ap (λ (v : ℕ). machine (Feed v bytes) m) (eqb-true u t h)
 names-act t (Draw u buffer place count) m h = ap (λ (v : ℕ). machine (Draw v buffer place count) m) (eqb-true u t h)
 names-act t (Check u tag) m h = ap (λ (v : ℕ). machine (Check v tag) m) (eqb-true u t h)
@@ -128,19 +128,19 @@ act-other c t u m sound n =
     (λ e h good pass. put-other u m e (actOf c .after e) h (keeps c e ∙ named-is number u (m .entries) e [] h) t (λ q. eqb-false u t n (sym q)))
 
 -- an open makes an entry under the next number
-open-other : (t mode : ℕ) (key : List ℕ) (m : Machine) → Sound m → m .next ≢ t → Leaves t m (openMachine mode key m)
+open-other : (t mode : ℕ) (key : List ℕ) (tagLength : ℕ) (m : Machine) → Sound m → m .next ≢ t → Leaves t m (openMachine mode key tagLength m)
 unfolding Leaves openMachine admit withNew
-open-other t mode key m sound n =
-    checked-each (Leaves t m) (openChecks (named mode) key (length (m .entries)) (leb mostOpen (openCount m))) (refuse m []) (admit (named mode) key m)
-    (λ k. refl) (λ p. go (named mode))
+open-other t mode key tagLength m sound n =
+    checked-each (Leaves t m) (openChecks (named mode tagLength) key tagLength (length (m .entries)) (leb mostOpen (openCount m))) (refuse m [])
+    (admit (named mode tagLength) key m) (λ k. refl) (λ p. go (named mode tagLength))
   where
     go : (mode : Named) → Leaves t m (admit mode key m)
     go (Is mode) = new-other m sound mode key t n
     go NoMode = refl
 
 call-other : (t : ℕ) (c : Call) (m : Machine) (e : Entry) → Sound m → all number t (m .entries) ≡ e ∷ [] → names t c ≡ false → Leaves t m (machine c m)
-unfolding Leaves machine feedMachine drawMachine checkMachine closeMachine sumMachine ticketChecks feedChecks drawChecks checkChecks
-call-other t (Open mode key) m e sound h n = open-other t mode key m sound (λ q. nil≢cons (sym (sound .above t (omega arith)) ∙ h))
+unfolding Leaves machine feedMachine drawMachine checkMachine closeMachine sumMachine ticketChecks feedChecks drawChecks checkChecks afterDraw
+call-other t (Open mode key tagLength) m e sound h n = open-other t mode key tagLength m sound (λ q. nil≢cons (sym (sound .above t (omega arith)) ∙ h))
 call-other t (Feed u bytes) m e sound h n = act-other (Feed u bytes) t u m sound n
 call-other t (Draw u buffer place count) m e sound h n = act-other (Draw u buffer place count) t u m sound n
 call-other t (Check u tag) m e sound h n = act-other (Check u tag) t u m sound n
@@ -178,8 +178,8 @@ entered-alone t (c ∷ cs) m e sound h =
 
 -- an event gives ticket t, or says nothing of how it was issued
 data Gives (t : ℕ) (e : Event) (es : List Event) : Type 0 where
-  given : (mode : ℕ) (key : List ℕ) → e .call ≡ Open mode key → isOn t e ≡ true → issueOf t (e ∷ es) ≡ issuedBy mode key → afterIssue t (e ∷ es) ≡ es
-      → Gives t e es
+  given : (mode : ℕ) (key : List ℕ) (tagLength : ℕ) → e .call ≡ Open mode key tagLength → isOn t e ≡ true
+      → issueOf t (e ∷ es) ≡ issuedBy (named mode tagLength) key → afterIssue t (e ∷ es) ≡ es → Gives t e es
   silent : issueOf t (e ∷ es) ≡ issueOf t es → afterIssue t (e ∷ es) ≡ afterIssue t es → Gives t e es
 
 -- a call that is not an open
@@ -193,13 +193,13 @@ no-open t e es same shut = silent (go (isOn t e)) (rw (shut, and-false))
 
 gives : (t : ℕ) (c : Call) (r : Response) (es : List Event) → Gives t (record { call = c; response = r }) es
 unfolding issueOf afterIssue
-gives t (Open mode key) r es = go (isOn t event) refl
+gives t (Open mode key tagLength) r es = go (isOn t event) refl
   where
     event : Event
-    event = record { call = Open mode key; response = r }
+    event = record { call = Open mode key tagLength; response = r }
 
     go : (b : Bool) → isOn t event ≡ b → Gives t event es
-    go true on = given mode key refl on (rw on) (rw on)
+    go true on = given mode key tagLength refl on (rw on) (rw on)
     go false on = silent (rw on) (rw on)
 gives t (Feed u bytes) r es = no-open t (record { call = Feed u bytes; response = r }) es (λ i. refl) refl
 gives t (Draw u buffer place count) r es = no-open t (record { call = Draw u buffer place count; response = r }) es (λ i. refl) refl
@@ -213,26 +213,31 @@ begun t (Is mode) key = newEntry t mode key
 begun t NoMode key = newEntry t Prf key
 
 -- an accepted open that gives ticket t makes this entry
-open-same : (t mode : ℕ) (key : List ℕ) (m : Machine) → Sound m → isOn t (record { call = Open mode key; response = openMachine mode key m .response }) ≡ true
-    → all number t (openMachine mode key m .after .entries) ≡ begun t (named mode) key ∷ []
+open-same : (t mode : ℕ) (key : List ℕ) (tagLength : ℕ) (m : Machine) → Sound m
+    → isOn t (record { call = Open mode key tagLength; response = openMachine mode key tagLength m .response }) ≡ true
+    → all number t (openMachine mode key tagLength m .after .entries) ≡ begun t (named mode tagLength) key ∷ []
 unfolding openMachine openChecks admit withNew
-open-same t mode key m sound =
-    checked-nonzero P (openChecks (named mode) key (length (m .entries)) (leb mostOpen (openCount m))) (refuse m []) (admit (named mode) key m)
-    ((λ q. omega arith), ((λ q. omega arith), ((λ q. omega arith), ((λ q. omega arith), tt)))) (λ k z q. absurd (false≢true (rw (ne-eqb k 0 z) at q)))
-    (λ p. go (named mode))
+open-same t mode key tagLength m sound =
+    checked-nonzero P (openChecks meant key tagLength (length (m .entries)) (leb mostOpen (openCount m))) (refuse m []) (admit meant key m)
+    ((λ q. omega arith), ((λ q. omega arith), ((λ q. omega arith), ((λ q. omega arith), ((λ q. omega arith), tt)))))
+    (λ k z q. absurd (false≢true (rw (ne-eqb k 0 z) at q))) (λ p. go meant)
   where
-    P : Step Machine → Type 0
-    P s = isOn t (record { call = Open mode key; response = s .response }) ≡ true → all number t (s .after .entries) ≡ begun t (named mode) key ∷ []
+    meant : Named
+    meant = named mode tagLength
 
-    go : (n : Named) → isOn t (record { call = Open mode key; response = admit n key m .response }) ≡ true
-        → all number t (admit n key m .after .entries) ≡ begun t n key ∷ []
+    On : Step Machine → Type 0
+    On s = isOn t (record { call = Open mode key tagLength; response = s .response }) ≡ true
+
+    P : Step Machine → Type 0
+    P s = On s → all number t (s .after .entries) ≡ begun t meant key ∷ []
+
+    go : (n : Named) → On (admit n key m) → all number t (admit n key m .after .entries) ≡ begun t n key ∷ []
     go (Is mode) q = rw (← eqb-true (m .next) t q) (new-here m sound mode key)
     go NoMode q = absurd (false≢true q)
 
 -- the calls that name the ticket from then on get what they get on its new entry alone
-issued-alone : (t mode : ℕ) (key : List ℕ) (calls : List Call) (m : Machine) → Sound m → issueOf t (events machine m calls) ≡ issuedBy mode key
-    → naming t (afterIssue t (events machine m calls))
-    ≡ alone (begun t (named mode) key) (callsOf (naming t (afterIssue t (events machine m calls))))
+issued-alone : (t : ℕ) (mode : Named) (key : List ℕ) (calls : List Call) (m : Machine) → Sound m → issueOf t (events machine m calls) ≡ issuedBy mode key
+    → naming t (afterIssue t (events machine m calls)) ≡ alone (begun t mode key) (callsOf (naming t (afterIssue t (events machine m calls))))
 unfolding machine events naming callsOf afterIssue
 issued-alone t mode key [] m sound issued = refl
 issued-alone t mode key (c ∷ cs) m sound issued =
@@ -245,19 +250,21 @@ issued-alone t mode key (c ∷ cs) m sound issued =
     event = record { call = c; response = machine c m .response }
 
     Alone : List Event → Type 0
-    Alone es = naming t es ≡ alone (begun t (named mode) key) (callsOf (naming t es))
+    Alone es = naming t es ≡ alone (begun t mode key) (callsOf (naming t es))
 
     go : (issueOf t rest ≡ issuedBy mode key → Alone (afterIssue t rest)) → Gives t event rest → Alone (afterIssue t (event ∷ rest))
     go later (silent i a) = rw a (later (sym i ∙ issued))
-    go later (given mode' key' is on i a) =
-        let same : issuedBy mode' key' ≡ issuedBy mode key = sym i ∙ issued in
-        let opens : c ≡ Open mode key = cc in
+    go later (given n k l is on i a) =
+        let same : issuedBy (named n l) k ≡ issuedBy mode key = sym i ∙ issued in
+        let meant : named n l ≡ mode = cc in
+        let keys : k ≡ key = cc in
         rw a
-        (entered-alone t cs (machine c m .after) (begun t (named mode) key) (sound-step c m sound) (rw opens (open-same t mode key m sound (rw opens at on))))
+        (entered-alone t cs (machine c m .after) (begun t mode key) (sound-step c m sound)
+        (rw is (open-same t n k l m sound (rw is at on) ∙ ap₂ (λ (x : Named) (y : List ℕ). begun t x y ∷ []) meant keys)))
 
 -- so two lists with the same issue and the same calls give the same
 pub machine-apart : Apart machine emptyMachine
 machine-apart calls others t mode key issued issued' same =
     issued-alone t mode key calls emptyMachine sound-empty issued
-    ∙ ap (alone (begun t (named mode) key)) same
+    ∙ ap (alone (begun t mode key)) same
     ∙ sym (issued-alone t mode key others emptyMachine sound-empty issued')

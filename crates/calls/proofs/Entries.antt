@@ -11,6 +11,7 @@ use Rattle.mode.specs.declared.Mode.the-variants.{Prf}
 use Rattle.mode.specs.Mode.{row}
 use Rattle.calls.specs.Checks.{Standing, mostIssued, mostFed}
 use Rattle.calls.specs.Machine.{Entry, Machine, runsOf, newEntry, afterClose, placeOf, entryOf, standingOf}
+use Rattle.calls.proofs.Checks.{Tagged}
 use Rattle.calls.proofs.Keyed.{AtMost, all, absent, inside, found}
 
 abbrev pub number : Entry → ℕ
@@ -23,6 +24,7 @@ pub record Good (e : Entry) : Type 0 where
   -- the limits are kept
   pub within : e .drawn ≤ row (e .mode) .mostDrawn
   pub roomy : length (e .fed) ≤ mostFed
+  pub short : Tagged (e .mode)
 
 -- ticket t has no entry, or one
 pub data Entered (entries : List Entry) (t : ℕ) : Type 0 where

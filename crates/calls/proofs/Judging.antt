@@ -1,5 +1,5 @@
--- Bytes and verdicts on the plain machine, which the checker computes: the MAC of no bytes under the key 00 01 .. 0f, drawn in parts and checked, and where the output of
--- each mode for no bytes begins, by the mode's number. They begin lines of crates/vectors/stdout.
+-- Bytes and verdicts on the plain machine, which the checker computes: the MAC of no bytes under the key 00 01 .. 0f, drawn in parts, and checked with tags of 16 and of 8
+-- bytes; and where the output of each mode for no bytes begins, by the mode's number. They begin lines of crates/vectors/stdout.
 -- Assumes nothing.
 use mathlib.Core.Bool.{true, false}
 use mathlib.Core.Path.{_≡_, refl, sym, ap, _∙_}
@@ -13,7 +13,7 @@ use Rattle.permutation.specs.Permutation.{sbox, addConstant, atEveryPlace, subs
 use Rattle.mode.specs.declared.Mode.the-variants.{Mac}
 use Rattle.mode.specs.Mode.{row, named}
 use Rattle.sponge.specs.Sponge.{ceiling, initial, start, pad, cut, blocks, flipIf, absorbBlocks, absorbMessage, squeezeBlocks, squeezeBytes, output, oneShot, runsFeeding, runsEnded}
-use Rattle.calls.specs.Answer.{opened, judged}
+use Rattle.calls.specs.Answer.{refused, opened, judged}
 use Rattle.checks.specs.Buffers.{written}
 use Rattle.checks.specs.Equality.{same}
 use Rattle.checks.proofs.Equality.{equal-same, other-same}
@@ -22,7 +22,6 @@ use Rattle.calls.specs.Call.{Open, Draw, Check, Event, events}
 use Rattle.calls.specs.Keyed.{find, total}
 use Rattle.calls.specs.Machine.{emptyMachine, formula, runsOf, outputOf, newEntry, afterDraw, placeOf, entryOf, standingOf, put}
 use Rattle.calls.specs.Machine.{openCount, admit, openMachine, drawMachine, checkMachine, machine}
-use Rattle.calls.proofs.Verdict.{macOf, mac-begins}
 
 abbrev key : List ℕ
 key = 0 ∷ 1 ∷ 2 ∷ 3 ∷ 4 ∷ 5 ∷ 6 ∷ 7 ∷ 8 ∷ 9 ∷ 10 ∷ 11 ∷ 12 ∷ 13 ∷ 14 ∷ 15 ∷ []
@@ -34,28 +33,37 @@ tag = 0xeb ∷ 0x1a ∷ 0xf6 ∷ 0x88 ∷ 0x82 ∷ 0x5d ∷ 0x66 ∷ 0xbf ∷ 0x
 abbrev other : List ℕ
 other = 0xeb ∷ 0x1a ∷ 0xf6 ∷ 0x88 ∷ 0x82 ∷ 0x5d ∷ 0x66 ∷ 0xbf ∷ 0x2d ∷ 0x53 ∷ 0xe1 ∷ 0x35 ∷ 0xf9 ∷ 0x32 ∷ 0x33 ∷ 0x14 ∷ []
 
-mac : macOf key [] ≡ tag
+-- the tag of 8 bytes, which is not the first 8 of the other
+abbrev shorter : List ℕ
+shorter = 0x3d ∷ 0xc0 ∷ 0x64 ∷ 0x87 ∷ 0x1d ∷ 0x40 ∷ 0x64 ∷ 0xa2 ∷ []
+
+macs : (oneShot (row (Mac 16)) key [] 16 ≡ tag) × (oneShot (row (Mac 8)) key [] 8 ≡ shorter)
 unfolding oneShot output squeezeBytes squeezeBlocks absorbMessage absorbBlocks flipIf blocks cut pad start initial fromBytes toBytes wordsOf zerosTo ceiling xorFrom xorAt xorWord bytesFrom byteAt weight permute round diffuse substitute atEveryPlace sbox addConstant mix rotr column number word bit
-mac = refl
+macs = (refl, refl)
 
--- a check passes for the tag, and for its first 8 bytes
-pub judging : map (λ (e : Event). e .response .answer) (events machine emptyMachine (Open 2 key ∷ Check 1 tag ∷ Check 1 other ∷ Check 1 (take 8 tag) ∷ []))
-    ≡ opened 1 1 ∷ judged true 2 ∷ judged false 2 ∷ judged true 2 ∷ []
+-- under tags of 16 bytes a check passes for the tag, and its first 8 bytes are none; under tags of 8 bytes it passes for the shorter tag, and not for those 8
+pub judging : map (λ (e : Event). e .response .answer)
+    (events machine emptyMachine
+    (Open 2 key 16 ∷ Open 2 key 8 ∷ Check 1 tag ∷ Check 1 other ∷ Check 1 (take 8 tag) ∷ Check 2 shorter ∷ Check 2 (take 8 tag) ∷ Check 2 tag ∷ []))
+    ≡ opened 1 1 ∷ opened 2 1 ∷ judged true 2 ∷ judged false 2 ∷ refused 4 ∷ judged true 2 ∷ judged false 2 ∷ refused 4 ∷ []
 unfolding events machine emptyMachine openMachine openChecks named admit newEntry runsOf formula runsFeeding runsEnded ceiling start openCount total checkMachine ticketChecks checkChecks checkOwn standingOf entryOf placeOf find afterDraw put outputOf
-judging = λ i. opened 1 1 ∷ judged (right i) 2 ∷ judged (wrong i) 2 ∷ judged (short i) 2 ∷ []
+judging = λ i. opened 1 1 ∷ opened 2 1 ∷ judged (right i) 2 ∷ judged (wrong i) 2 ∷ refused 4 ∷ judged (short i) 2 ∷ judged (cut i) 2 ∷ refused 4 ∷ []
   where
-    right : same tag (macOf key []) ≡ true
-    right = equal-same tag (macOf key []) (sym mac)
+    right : same tag (oneShot (row (Mac 16)) key [] 16) ≡ true
+    right = equal-same tag _ (sym (macs .0))
 
-    wrong : same other (macOf key []) ≡ false
-    wrong = other-same other (macOf key []) (λ e. absurd (omega (arith, ap (λ (l : List ℕ). getD l 15 0) (e ∙ mac))))
+    wrong : same other (oneShot (row (Mac 16)) key [] 16) ≡ false
+    wrong = other-same other _ (λ e. absurd (omega (arith, ap (λ (l : List ℕ). getD l 15 0) (e ∙ macs .0))))
 
-    short : same (take 8 tag) (oneShot (row Mac) key [] 8) ≡ true
-    short = equal-same (take 8 tag) (oneShot (row Mac) key [] 8) (sym (mac-begins key [] 8 (omega arith) ∙ ap (take 8) mac))
+    short : same shorter (oneShot (row (Mac 8)) key [] 8) ≡ true
+    short = equal-same shorter _ (sym (macs .1))
+
+    cut : same (take 8 tag) (oneShot (row (Mac 8)) key [] 8) ≡ false
+    cut = other-same (take 8 tag) _ (λ e. absurd (omega (arith, ap (λ (l : List ℕ). getD l 0 0) (e ∙ macs .1))))
 
 -- a draw writes from place on the bytes that come next, and keeps the buffer's others; a refused one writes nothing
 pub drawn-bytes : map (λ (e : Event). e .response .buffer)
-    (events machine emptyMachine (Open 2 key ∷ Draw 1 (1 ∷ 2 ∷ 3 ∷ 4 ∷ 5 ∷ []) 1 3 ∷ Draw 1 (1 ∷ 2 ∷ 3 ∷ []) 2 2 ∷ Draw 1 (1 ∷ 2 ∷ 3 ∷ []) 0 2 ∷ []))
+    (events machine emptyMachine (Open 2 key 16 ∷ Draw 1 (1 ∷ 2 ∷ 3 ∷ 4 ∷ 5 ∷ []) 1 3 ∷ Draw 1 (1 ∷ 2 ∷ 3 ∷ []) 2 2 ∷ Draw 1 (1 ∷ 2 ∷ 3 ∷ []) 0 2 ∷ []))
     ≡ [] ∷ (1 ∷ 0xeb ∷ 0x1a ∷ 0xf6 ∷ 5 ∷ []) ∷ (1 ∷ 2 ∷ 3 ∷ []) ∷ (0x88 ∷ 0x82 ∷ 3 ∷ []) ∷ []
 unfolding events machine emptyMachine openMachine openChecks named admit newEntry openCount total drawMachine ticketChecks drawChecks drawOwn standingOf entryOf placeOf find afterDraw put written outputOf oneShot output squeezeBytes squeezeBlocks absorbMessage absorbBlocks flipIf blocks cut pad start initial fromBytes toBytes wordsOf zerosTo ceiling xorFrom xorAt xorWord bytesFrom byteAt weight permute round diffuse substitute atEveryPlace sbox addConstant mix rotr column number word bit
 drawn-bytes = refl
@@ -63,7 +71,7 @@ drawn-bytes = refl
 -- each number opens its mode
 pub numbered-outputs : map (λ (e : Event). e .response .buffer)
     (events machine emptyMachine
-    (Open 1 key ∷ Open 2 key ∷ Open 3 [] ∷ Open 4 [] ∷ Open 5 [] ∷ Open 6 []
+    (Open 1 key 16 ∷ Open 2 key 16 ∷ Open 3 [] 16 ∷ Open 4 [] 16 ∷ Open 5 [] 16 ∷ Open 6 [] 16
     ∷ Draw 1 (0 ∷ 0 ∷ []) 0 2 ∷ Draw 2 (0 ∷ 0 ∷ []) 0 2 ∷ Draw 3 (0 ∷ 0 ∷ []) 0 2 ∷ Draw 4 (0 ∷ 0 ∷ []) 0 2 ∷ Draw 5 (0 ∷ 0 ∷ []) 0 2 ∷ Draw 6 (0 ∷ 0 ∷ []) 0 2 ∷ []))
     ≡ [] ∷ [] ∷ [] ∷ [] ∷ [] ∷ []
     ∷ (0x2a ∷ 0x76 ∷ []) ∷ (0xeb ∷ 0x1a ∷ []) ∷ (0x73 ∷ 0x46 ∷ []) ∷ (0x5d ∷ 0x4c ∷ []) ∷ (0xae ∷ 0xcd ∷ []) ∷ (0x7c ∷ 0x10 ∷ []) ∷ []

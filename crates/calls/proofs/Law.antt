@@ -7,9 +7,8 @@ use Prim.Native.Nat.{ℕ}
 use lib.ListN.{length}
 use Rattle.mode.specs.declared.Mode.{Mode}
 use Rattle.mode.specs.declared.Named.the-variants.{Is}
-use Rattle.mode.specs.Mode.{row, numberOf, named}
+use Rattle.mode.specs.Mode.{row}
 use Rattle.sponge.specs.Sponge.{oneShot}
-use Rattle.mode.proofs.Modes.{named-number}
 use Rattle.calls.specs.Answer.{summed}
 use Rattle.calls.specs.Call.{Call, Event, events, final}
 use Rattle.calls.specs.Keyed.{total}
@@ -35,14 +34,8 @@ isIssued : Issue → Bool
 isIssued unissued = false
 isIssued (issuedBy mode key) = true
 
--- modes with the same number are the same
-same-mode : (a b : Mode) → numberOf a ≡ numberOf b → a ≡ b
-same-mode a b h =
-    let e : Is a ≡ Is b = sym (named-number a) ∙ ap named h ∙ named-number b in
-    cc
-
 -- an entry meets the claim for its own mode and key
-entry-claim : (mode : Mode) (key : List ℕ) (es : List Entry) → readingOf es .issue ≡ issuedBy (numberOf mode) key → Claim mode key (readingOf es)
+entry-claim : (mode : Mode) (key : List ℕ) (es : List Entry) → readingOf es .issue ≡ issuedBy (Is mode) key → Claim mode key (readingOf es)
 unfolding readingOf isIssued outputOf runsOf
 entry-claim mode key [] h = absurd (false≢true (ap isIssued h))
 entry-claim mode key (e ∷ es) h = record {
@@ -58,7 +51,7 @@ entry-claim mode key (e ∷ es) h = record {
     all-drawn = length-output (e .mode) (e .key) (e .fed) (e .drawn)
 
     modes : e .mode ≡ mode
-    modes = same-mode (e .mode) mode cc
+    modes = cc
 
     keys : e .key ≡ key
     keys = cc
@@ -75,7 +68,13 @@ module _ (calls : List Call) where
   unfolding emptyMachine reading readingOf list end
   list-says t = reads-list calls emptyMachine sound-empty t
 
-  ticket-claim : (t : ℕ) (mode : Mode) (key : List ℕ) → readOn t list unread .issue ≡ issuedBy (numberOf mode) key → Claim mode key (readOn t list unread)
+  -- so its entry, where there is one, is what the list says of it
+  pub entry-says : (t : ℕ) (e : Entry) → all number t (final machine emptyMachine calls .entries) ≡ e ∷ []
+      → readOn t (events machine emptyMachine calls) unread ≡ readingOf (e ∷ [])
+  unfolding reading list end
+  entry-says t e h = list-says t ∙ ap readingOf h
+
+  ticket-claim : (t : ℕ) (mode : Mode) (key : List ℕ) → readOn t list unread .issue ≡ issuedBy (Is mode) key → Claim mode key (readOn t list unread)
   unfolding reading
   ticket-claim t mode key = rw (list-says t) (entry-claim mode key (all number t (end .entries)))
 

@@ -12,8 +12,7 @@ use lib.ListN.{length, drop}
 use Rattle.mode.specs.declared.Mode.{Mode}
 use Rattle.mode.specs.declared.Named.{Named}
 use Rattle.mode.specs.declared.Named.the-variants.{Is, NoMode}
-use Rattle.mode.specs.Mode.{row, numberOf, named}
-use Rattle.mode.proofs.Modes.{number-is}
+use Rattle.mode.specs.Mode.{row, named}
 use Rattle.calls.specs.Answer.{opened, counted, judged}
 use Rattle.calls.specs.Call.{Call, Open, Feed, Draw, Check, Close, Sum, Step, step, refuse}
 use Rattle.checks.specs.Checks.{OneCheck, checked}
@@ -25,7 +24,7 @@ use Rattle.calls.specs.Machine.{Entry, Machine, runsOf, outputOf, newEnt
 use Rattle.calls.specs.Machine.{openMachine, feedMachine, drawMachine, checkMachine, closeMachine, sumMachine, machine}
 use Rattle.calls.proofs.Keyed.{all}
 use Rattle.checks.proofs.Checks.{Pass, Nonzero, checked-nonzero}
-use Rattle.calls.proofs.Checks.{never-issued, is-closed, is-open}
+use Rattle.calls.proofs.Checks.{never-issued, is-closed, is-open, Tagged, tagged}
 use Rattle.calls.proofs.Entries.{number, Good, Entered, missing, entered, Sound, standingFor, entry-is, standing-is, standing-none}
 
 -- ticket t is open, and e is its entry
@@ -55,8 +54,8 @@ at-ticket P t buffer m s rest done never closed others = go (s .once t)
 -- each way out of a call, with what the checks have shown
 pub data Outcome (m : Machine) : Call → Step Machine → Type 0 where
   refuses : (c : Call) (buffer : List ℕ) (n : ℕ) → n ≢ 0 → Outcome m c (refuse m buffer n)
-  issues : (n : ℕ) (mode : Mode) (key : List ℕ) → numberOf mode ≡ n → length (m .entries) < mostIssued
-      → Outcome m (Open n key)
+  issues : (n : ℕ) (mode : Mode) (key : List ℕ) (tagLength : ℕ) → named n tagLength ≡ Is mode → Tagged mode → length (m .entries) < mostIssued
+      → Outcome m (Open n key tagLength)
       (step (record { next = m .next + 1; entries = m .entries ++ (newEntry (m .next) mode key ∷ []) })
       (opened (m .next) (runsOf (newEntry (m .next) mode key))) [])
   feeds : (t : ℕ) (bytes : List ℕ) (e : Entry) → OpenTicket m t e → e .feeding ≡ true → length (e .fed) + length bytes ≤ mostFed
@@ -66,7 +65,8 @@ pub data Outcome (m : Machine) : Call → Step Machine → Type 0 where
       → Outcome m (Draw t buffer place count)
       (step (put t (afterDraw count e) m) (counted (runsOf (afterDraw count e))) (written buffer place (drop (e .drawn) (outputOf e (e .drawn + count)))))
   checks : (t : ℕ) (tag : List ℕ) (e : Entry) → OpenTicket m t e
-      → Outcome m (Check t tag) (step (put t (afterDraw 0 e) m) (judged (same tag (outputOf (afterDraw 0 e) (length tag))) (runsOf (afterDraw 0 e))) [])
+      → Outcome m (Check t tag)
+      (step (put t (afterDraw 0 e) m) (judged (same tag (outputOf (afterDraw 0 e) (row (e .mode) .mostDrawn))) (runsOf (afterDraw 0 e))) [])
   closes : (t : ℕ) (e : Entry) → OpenTicket m t e → Outcome m (Close t) (step (put t (afterClose e) m) (counted (runsOf (afterClose e))) [])
   sums : Outcome m Sum (sumMachine m)
 
@@ -80,21 +80,22 @@ ticket-outcome c t buffer m s rest done numbers accepted =
     at-ticket (Outcome m c) t buffer m s rest done (refuses c buffer 11 (λ z. omega arith)) (refuses c buffer 12 (λ z. omega arith))
     (λ e o. checked-nonzero (Outcome m c) (rest (standingFor e)) (refuse m buffer) (done e) (numbers (standingFor e)) (refuses c buffer) (accepted e o))
 
-open-outcome : (n : ℕ) (key : List ℕ) (m : Machine) → Outcome m (Open n key) (openMachine n key m)
+open-outcome : (n : ℕ) (key : List ℕ) (tagLength : ℕ) (m : Machine) → Outcome m (Open n key tagLength) (openMachine n key tagLength m)
 unfolding openMachine openChecks admit
-open-outcome n key m = go (named n) refl
+open-outcome n key tagLength m = go (named n tagLength) refl
   where
-    go : (x : Named) → named n ≡ x
-        → Outcome m (Open n key) (checked (refuse m []) (openChecks x key (length (m .entries)) (leb mostOpen (openCount m))) (admit x key m))
+    go : (x : Named) → named n tagLength ≡ x
+        → Outcome m (Open n key tagLength) (checked (refuse m []) (openChecks x key tagLength (length (m .entries)) (leb mostOpen (openCount m))) (admit x key m))
     go (Is mode) h =
-        checked-nonzero (Outcome m (Open n key)) (openChecks (Is mode) key (length (m .entries)) (leb mostOpen (openCount m))) (refuse m [])
-        (admit (Is mode) key m) (λ z. omega arith, (λ z. omega arith, (λ z. omega arith, (λ z. omega arith, tt)))) (refuses (Open n key) [])
-        (λ pass. issues n mode key (number-is n mode h) (leb-false _ _ (pass .1 .1 .0)))
-    go NoMode h = refuses (Open n key) [] 1 (λ z. omega arith)
+        checked-nonzero (Outcome m (Open n key tagLength)) (openChecks (Is mode) key tagLength (length (m .entries)) (leb mostOpen (openCount m))) (refuse m [])
+        (admit (Is mode) key m) (λ z. omega arith, (λ z. omega arith, (λ z. omega arith, (λ z. omega arith, (λ z. omega arith, tt)))))
+        (refuses (Open n key tagLength) [])
+        (λ pass. issues n mode key tagLength h (tagged n tagLength mode h (pass .1 .1 .0)) (leb-false _ _ (pass .1 .1 .1 .0)))
+    go NoMode h = refuses (Open n key tagLength) [] 1 (λ z. omega arith)
 
 pub outcome : (c : Call) (m : Machine) → Sound m → Outcome m c (machine c m)
-unfolding machine feedMachine drawMachine checkMachine closeMachine feedChecks feedOwn drawChecks drawOwn checkChecks checkOwn ticketChecks
-outcome (Open n key) m s = open-outcome n key m
+unfolding machine feedMachine drawMachine checkMachine closeMachine feedChecks feedOwn drawChecks drawOwn checkChecks checkOwn ticketChecks afterDraw
+outcome (Open n key tagLength) m s = open-outcome n key tagLength m
 outcome (Feed t bytes) m s =
     ticket-outcome (Feed t bytes) t [] m s (λ x. feedOwn x bytes)
     (λ e. step (put t (afterFeed bytes e) m) (counted (runsOf (afterFeed bytes e))) []) (λ x. (λ z. omega arith, (λ z. omega arith, tt)))
@@ -108,7 +109,7 @@ outcome (Draw t buffer place count) m s =
 outcome (Check t tag) m s =
     ticket-outcome (Check t tag) t [] m s
     (λ x. checkOwn x tag)
-    (λ e. step (put t (afterDraw 0 e) m) (judged (same tag (outputOf (afterDraw 0 e) (length tag))) (runsOf (afterDraw 0 e))) [])
+    (λ e. step (put t (afterDraw 0 e) m) (judged (same tag (outputOf (afterDraw 0 e) (row (e .mode) .mostDrawn))) (runsOf (afterDraw 0 e))) [])
     (λ x. (λ z. omega arith, (λ z. omega arith, tt)))
     (λ e o pass. checks t tag e o)
 outcome (Close t) m s =

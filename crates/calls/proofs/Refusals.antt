@@ -1,7 +1,7 @@
 -- Which check answers: the orders of document 01's "Tickets" and the numbers and limits of "Refused", for any values, lists of calls being too short for some.
 -- For each list of checks the laws take all cases, one after the other in the list's order. What is answered is any function of the number.
 -- Assumes nothing.
-use mathlib.Core.Bool.{Bool, true, false, cond, or-true}
+use mathlib.Core.Bool.{Bool, true, false, cond, or-true, and-false}
 use mathlib.Core.Path.{_≡_, refl}
 use mathlib.Core.Logic.{_≢_}
 use mathlib.Core.List.{List, []}
@@ -14,17 +14,17 @@ use Rattle.mode.specs.declared.Mode.{Mode}
 use Rattle.mode.specs.declared.Mode.the-variants.{Prf, Mac, Hash, Xof, HashA, XofA}
 use Rattle.mode.specs.declared.Named.the-variants.{Is, NoMode}
 use Rattle.mode.specs.Mode.{row, numberOf}
-use Rattle.mode.proofs.Modes.{named-number, same-number}
-use Rattle.calls.specs.Call.{refuse}
+use Rattle.mode.proofs.Modes.{named-number}
+use Rattle.calls.specs.Call.{Step, refuse}
 use Rattle.checks.specs.Checks.{OneCheck, checked}
-use Rattle.calls.specs.Checks.{mostOpen, Standing, openChecks, ticketChecks, feedOwn, feedChecks, drawOwn, drawChecks, checkOwn, checkChecks}
+use Rattle.calls.specs.Checks.{mostOpen, wrongTag, Standing, openChecks, ticketChecks, feedOwn, feedChecks, drawOwn, drawChecks, checkOwn, checkChecks}
 use Rattle.calls.specs.Machine.{Machine, openCount, admit, openMachine}
 use Rattle.calls.proofs.Checks.{never-issued, is-closed}
 
 -- at most so many bytes are drawn
 abbrev pub most : Mode → ℕ
 most Prf = 1048576
-most Mac = 16
+most (Mac length) = length
 most Hash = 32
 most Xof = 1048576
 most HashA = 32
@@ -32,11 +32,18 @@ most XofA = 1048576
 
 most-drawn : (mode : Mode) → row mode .mostDrawn ≡ most mode
 most-drawn Prf = refl
-most-drawn Mac = refl
+most-drawn (Mac length) = refl
 most-drawn Hash = refl
 most-drawn Xof = refl
 most-drawn HashA = refl
 most-drawn XofA = refl
+
+-- the tag lengths that are not wrong: 8 to 16 in mode 2, and any in another mode
+pub right-tag : (mode : Mode) (tag : ℕ) → 8 ≤ tag → tag ≤ 16 → wrongTag (Is mode) tag ≡ false
+right-tag mode tag low high = rw (le-ltb tag 8 low, le-ltb 16 tag high, and-false)
+
+pub any-tag : (mode : Mode) (tag : ℕ) → numberOf mode ≢ 2 → wrongTag (Is mode) tag ≡ false
+any-tag mode tag other = rw (ne-eqb (numberOf mode) 2 other)
 
 -- the standing of an open ticket
 abbrev pub openStanding : Mode → Bool → ℕ → ℕ → Standing
@@ -47,29 +54,39 @@ module _ {A : Type 0} (answer : ℕ → A) (done : A) where
   abbrev pub outcome : List OneCheck → A
   outcome cs = checked answer cs done
 
-  -- ---- open: 1, 2, 14, 13
+  -- ---- open: 1, 2, 21, 14, 13
 
-  module _ (key : List ℕ) (issued : ℕ) (full : Bool) where
+  module _ (key : List ℕ) (tag issued : ℕ) (full : Bool) where
     -- whatever the key
-    pub open-1 : outcome (openChecks NoMode key issued full) ≡ answer 1
+    pub open-1 : outcome (openChecks NoMode key tag issued full) ≡ answer 1
     unfolding openChecks
     open-1 = refl
 
-    -- however many are issued and open
-    pub open-2 : (mode : Mode) → length key ≢ row mode .keyLength → outcome (openChecks (Is mode) key issued full) ≡ answer 2
+    -- whatever the tag length, however many are issued and open
+    pub open-2 : (mode : Mode) → length key ≢ row mode .keyLength → outcome (openChecks (Is mode) key tag issued full) ≡ answer 2
     unfolding openChecks
     open-2 mode wrong = rw (ne-eqb (length key) (row mode .keyLength) wrong)
 
-    -- whether there is a place or not
-    pub open-14 : (mode : Mode) → length key ≡ row mode .keyLength → 4294967295 ≤ issued → outcome (openChecks (Is mode) key issued full) ≡ answer 14
+    -- however many are issued and open
+    pub open-21-short : length key ≡ 16 → tag < 8 → outcome (openChecks (Is (Mac tag)) key tag issued full) ≡ answer 21
     unfolding openChecks
-    open-14 mode right all = rw (eq-eqb (length key) (row mode .keyLength) right, le-leb 4294967295 issued all)
+    open-21-short right short = rw (eq-eqb (length key) 16 right, lt-ltb tag 8 short)
+
+    pub open-21-long : length key ≡ 16 → 16 < tag → outcome (openChecks (Is (Mac tag)) key tag issued full) ≡ answer 21
+    unfolding openChecks
+    open-21-long right long = rw (eq-eqb (length key) 16 right, lt-ltb 16 tag long, or-true)
+
+    -- where there is no wrong tag length: whether there is a place or not
+    pub open-14 : (mode : Mode) → length key ≡ row mode .keyLength → wrongTag (Is mode) tag ≡ false → 4294967295 ≤ issued
+        → outcome (openChecks (Is mode) key tag issued full) ≡ answer 14
+    unfolding openChecks
+    open-14 mode right tags all = rw (eq-eqb (length key) (row mode .keyLength) right, tags, le-leb 4294967295 issued all)
 
     -- as long as a number is left
-    pub open-13 : (mode : Mode) → length key ≡ row mode .keyLength → issued < 4294967295
-        → outcome (openChecks (Is mode) key issued full) ≡ cond full (answer 13) done
+    pub open-13 : (mode : Mode) → length key ≡ row mode .keyLength → wrongTag (Is mode) tag ≡ false → issued < 4294967295
+        → outcome (openChecks (Is mode) key tag issued full) ≡ cond full (answer 13) done
     unfolding openChecks
-    open-13 mode right room = rw (eq-eqb (length key) (row mode .keyLength) right, lt-leb 4294967295 issued room)
+    open-13 mode right tags room = rw (eq-eqb (length key) (row mode .keyLength) right, tags, lt-leb 4294967295 issued room)
 
   -- ---- a call on a ticket: 11, 12
 
@@ -130,21 +147,19 @@ module _ {A : Type 0} (answer : ℕ → A) (done : A) where
 
   -- check: 18, 4, whether feeding lasts or not. 18 for any tag
   module _ (feeding : Bool) (fed drawn : ℕ) (tag : List ℕ) where
-    pub check-18 : (mode : Mode) → mode ≢ Mac → outcome (checkChecks (openStanding mode feeding fed drawn) tag) ≡ answer 18
+    pub check-18 : (mode : Mode) → numberOf mode ≢ 2 → outcome (checkChecks (openStanding mode feeding fed drawn) tag) ≡ answer 18
     unfolding checkChecks checkOwn ticketChecks
-    check-18 mode other = rw (ne-eqb (numberOf mode) 2 (λ e. other (same-number mode Mac e)))
+    check-18 mode other = rw (ne-eqb (numberOf mode) 2 other)
 
-    pub check-4-short : length tag < 8 → outcome (checkChecks (openStanding Mac feeding fed drawn) tag) ≡ answer 4
-    unfolding checkChecks checkOwn ticketChecks
-    check-4-short short = rw (lt-ltb (length tag) 8 short)
+    -- a tag of another length than the ticket's, shorter or longer
+    module _ (own : ℕ) where
+      pub check-4 : length tag ≢ own → outcome (checkChecks (openStanding (Mac own) feeding fed drawn) tag) ≡ answer 4
+      unfolding checkChecks checkOwn ticketChecks
+      check-4 other = rw (ne-eqb (length tag) own other)
 
-    pub check-4-long : 16 < length tag → outcome (checkChecks (openStanding Mac feeding fed drawn) tag) ≡ answer 4
-    unfolding checkChecks checkOwn ticketChecks
-    check-4-long long = rw (lt-ltb 16 (length tag) long, or-true)
-
-    pub check-done : 8 ≤ length tag → length tag ≤ 16 → outcome (checkChecks (openStanding Mac feeding fed drawn) tag) ≡ done
-    unfolding checkChecks checkOwn ticketChecks
-    check-done low high = rw (le-ltb (length tag) 8 low, le-ltb 16 (length tag) high)
+      pub check-done : length tag ≡ own → outcome (checkChecks (openStanding (Mac own) feeding fed drawn) tag) ≡ done
+      unfolding checkChecks checkOwn ticketChecks
+      check-done same = rw (eq-eqb (length tag) own same)
 
     -- close
     pub close-done : (mode : Mode) → outcome (ticketChecks (openStanding mode feeding fed drawn)) ≡ done
@@ -153,15 +168,19 @@ module _ {A : Type 0} (answer : ℕ → A) (done : A) where
 
 -- ---- the last ticket, on the plain machine
 
-module _ (mode : Mode) (key : List ℕ) (m : Machine) (right : length key ≡ row mode .keyLength) where
+module _ (mode : Mode) (key : List ℕ) (m : Machine) (right : length key ≡ row mode .keyLength) (tags : wrongTag (Is mode) (row mode .mostDrawn) ≡ false) where
+  -- an open that names the mode, with its tag length
+  abbrev opening : Step Machine
+  opening = openMachine (numberOf mode) key (row mode .mostDrawn) m
+
   -- all are issued, whether there is a place or not
-  pub all-issued : length (m .entries) ≡ 4294967295 → openMachine (numberOf mode) key m ≡ refuse m [] 14
+  pub all-issued : length (m .entries) ≡ 4294967295 → opening ≡ refuse m [] 14
   unfolding openMachine
   all-issued n =
-      rw named-number (open-14 (refuse m []) (admit (Is mode) key m) key (length (m .entries)) (leb mostOpen (openCount m)) mode right (omega arith))
+      rw named-number (open-14 (refuse m []) (admit (Is mode) key m) key (row mode .mostDrawn) (length (m .entries)) (leb mostOpen (openCount m)) mode right tags (omega arith))
 
   -- one is left: it is issued unless 16 are open
-  pub one-left : length (m .entries) ≡ 4294967294 → openMachine (numberOf mode) key m ≡ cond (leb 16 (openCount m)) (refuse m [] 13) (admit (Is mode) key m)
+  pub one-left : length (m .entries) ≡ 4294967294 → opening ≡ cond (leb 16 (openCount m)) (refuse m [] 13) (admit (Is mode) key m)
   unfolding openMachine
   one-left n =
-      rw named-number (open-13 (refuse m []) (admit (Is mode) key m) key (length (m .entries)) (leb mostOpen (openCount m)) mode right (omega arith))
+      rw named-number (open-13 (refuse m []) (admit (Is mode) key m) key (row mode .mostDrawn) (length (m .entries)) (leb mostOpen (openCount m)) mode right tags (omega arith))

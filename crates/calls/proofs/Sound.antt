@@ -22,6 +22,7 @@ use Rattle.calls.specs.Machine.{Entry, Machine, emptyMachine, formula, r
 use Rattle.calls.specs.Machine.{put, sumMachine, machine}
 use Rattle.calls.proofs.Keyed.{most-nil, most-set, most-snoc, all, all-append, all-yes, all-no, all-here, all-other, named-is}
 use Rattle.checks.proofs.Checks.{Pass, checked-each}
+use Rattle.calls.proofs.Checks.{Tagged}
 use Rattle.calls.proofs.Entries.{number, Good, Entered, missing, entered, mostRuns, Sound, standingFor}
 use Rattle.calls.proofs.Outcomes.{OpenTicket, at-ticket, Outcome, refuses, issues, feeds, draws, checks, closes, sums, outcome}
 
@@ -39,25 +40,25 @@ bounded e g = go (e .feeding)
     go true = omega (arith, g .roomy, fed)
     go false =
         rw (blocks-drawn (row (e .mode)) (rates (e .mode) .draws) (e .drawn))
-        (omega (arith, g .roomy, g .within, limits (e .mode) .drawn, fed, div-le-self (e .drawn - 1) (row (e .mode) .drawRate)))
+        (omega (arith, g .roomy, g .within, limits (e .mode) .drawn (g .short), fed, div-le-self (e .drawn - 1) (row (e .mode) .drawRate)))
 
 -- ---- entries as calls leave them
 
-pub good-new : (n : ℕ) (mode : Mode) (key : List ℕ) → Good (newEntry n mode key)
+pub good-new : (n : ℕ) (mode : Mode) (key : List ℕ) → Tagged mode → Good (newEntry n mode key)
 unfolding newEntry
-good-new n mode key = record { undrawn = λ _. refl; within = omega arith; roomy = omega arith }
+good-new n mode key short = record { undrawn = λ _. refl; within = omega arith; roomy = omega arith; short = short }
 
 pub good-fed : (bytes : List ℕ) (e : Entry) → Good e → length (e .fed) + length bytes ≤ mostFed → Good (afterFeed bytes e)
 unfolding afterFeed
-good-fed bytes e g h = record { undrawn = g .undrawn; within = g .within; roomy = rw length-append h }
+good-fed bytes e g h = record { undrawn = g .undrawn; within = g .within; roomy = rw length-append h; short = g .short }
 
 pub good-drawn : (count : ℕ) (e : Entry) → Good e → e .drawn + count ≤ row (e .mode) .mostDrawn → Good (afterDraw count e)
 unfolding afterDraw
-good-drawn count e g h = record { undrawn = λ f. absurd (false≢true f); within = h; roomy = g .roomy }
+good-drawn count e g h = record { undrawn = λ f. absurd (false≢true f); within = h; roomy = g .roomy; short = g .short }
 
 pub good-closed : (e : Entry) → Good e → Good (afterClose e)
 unfolding afterClose
-good-closed e g = record { undrawn = g .undrawn; within = g .within; roomy = g .roomy }
+good-closed e g = record { undrawn = g .undrawn; within = g .within; roomy = g .roomy; short = g .short }
 
 -- ---- a machine with one entry changed, and with one more
 
@@ -107,15 +108,15 @@ module _ (m : Machine) (s : Sound m) (mode : Mode) (key : List ℕ) where
   unfolding withNew newEntry
   new-other u n = rw (all-append, all-no number u (newEntry (m .next) mode key) [] n, append-nil)
 
-  new-sound : length (m .entries) < mostIssued → Sound (withNew mode key m)
+  new-sound : Tagged mode → length (m .entries) < mostIssued → Sound (withNew mode key m)
   unfolding withNew
-  new-sound room = record {
+  new-sound short room = record {
     once = λ u. go u (eqb (m .next) u) refl;
     zeroth = new-other 0 (λ z. omega (arith, s .numbered)) ∙ s .zeroth;
     above = λ u l. new-other u (λ z. omega arith) ∙ s .above u (omega arith);
     numbered = rw length-append (omega (arith, s .numbered));
     few = rw length-append (omega arith);
-    small = most-snoc runsOf mostRuns (m .entries) (newEntry (m .next) mode key) (s .small) (bounded _ (good-new (m .next) mode key));
+    small = most-snoc runsOf mostRuns (m .entries) (newEntry (m .next) mode key) (s .small) (bounded _ (good-new (m .next) mode key short));
   }
     where
       other : (u : ℕ) → m .next ≢ u → Entered (m .entries) u → Entered (withNew mode key m .entries) u
@@ -126,7 +127,7 @@ module _ (m : Machine) (s : Sound m) (mode : Mode) (key : List ℕ) where
       go u true z =
           entered (newEntry (m .next) mode key)
           (ap (λ (v : ℕ). all number v (withNew mode key m .entries)) (sym (eqb-true _ _ z)) ∙ new-here)
-          (good-new (m .next) mode key)
+          (good-new (m .next) mode key short)
       go u false z = other u (eqb-false _ _ z) (s .once u)
 
 -- ---- the calls
@@ -159,7 +160,7 @@ sound-empty = record {
 sound-outcome : (m : Machine) → Sound m → {c : Call} {r : Step Machine} → Outcome m c r → Sound (r .after)
 unfolding withNew afterFeed afterDraw afterClose sumMachine
 sound-outcome m s (refuses c buffer n h) = s
-sound-outcome m s (issues n mode key h room) = new-sound m s mode key room
+sound-outcome m s (issues n mode key length h short room) = new-sound m s mode key short room
 sound-outcome m s (feeds t bytes e o h room) = change-sound m s t e (afterFeed bytes e) o refl (good-fed bytes e (o .good) room)
 sound-outcome m s (draws t buffer place count e o h room) = change-sound m s t e (afterDraw count e) o refl (good-drawn count e (o .good) room)
 sound-outcome m s (checks t tag e o) = change-sound m s t e (afterDraw 0 e) o refl (good-drawn 0 e (o .good) (omega (arith, o .good .within)))

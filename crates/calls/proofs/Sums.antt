@@ -39,7 +39,7 @@ put-numbers m t e y o same =
 given-outcome : (m : Machine) {c : Call} {r : Step Machine} → Outcome m c r → numbers (r .after) ≡ numbers m ++ given c (r .response)
 unfolding numbers given newEntry afterFeed afterDraw afterClose sumMachine
 given-outcome m (refuses c buffer n h) = rw (ne-eqb n 0 h, append-nil)
-given-outcome m (issues n mode key h room) = map-append number (m .entries) (newEntry (m .next) mode key ∷ [])
+given-outcome m (issues n mode key tagLength h short room) = map-append number (m .entries) (newEntry (m .next) mode key ∷ [])
 given-outcome m (feeds t bytes e o h room) = put-numbers m t e (afterFeed bytes e) o refl
 given-outcome m (draws t buffer place count e o h room) = put-numbers m t e (afterDraw count e) o refl
 given-outcome m (checks t tag e o) = put-numbers m t e (afterDraw 0 e) o refl
@@ -66,7 +66,7 @@ data Given (m : Machine) (c : Call) (r : Step Machine) : Type 0 where
 given-next : (m : Machine) {c : Call} {r : Step Machine} → Outcome m c r → Given m c r
 unfolding given put sumMachine
 given-next m (refuses c buffer n h) = none (rw (ne-eqb n 0 h)) refl
-given-next m (issues n mode key h room) = one refl refl
+given-next m (issues n mode key tagLength h short room) = one refl refl
 given-next m (feeds t bytes e o h room) = none refl refl
 given-next m (draws t buffer place count e o h room) = none refl refl
 given-next m (checks t tag e o) = none refl refl

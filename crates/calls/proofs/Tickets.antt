@@ -10,7 +10,9 @@ use borrow.Author.Tests.{eqb-true, eqb-false, ne-eqb}
 use lib.Dec.{eqb}
 use lib.ListN.{length, take, drop}
 use Rattle.mode.specs.declared.Mode.{Mode}
-use Rattle.mode.specs.Mode.{numberOf}
+use Rattle.mode.specs.declared.Named.{Named}
+use Rattle.mode.specs.declared.Named.the-variants.{Is}
+use Rattle.mode.specs.Mode.{named}
 use Rattle.sponge.specs.Sponge.{squeezeBytes, output, oneShot}
 use Rattle.calls.specs.declared.Answer.{Answer}
 use Rattle.calls.specs.Answer.{refused, opened, counted, judged}
@@ -30,7 +32,7 @@ use Rattle.calls.proofs.Readings.{Reading, unread, reading-path, readOn
 unfoldable pub readingOf : List Entry → Reading
 readingOf [] = unread
 readingOf (e ∷ es) =
-    record { issue = issuedBy (numberOf (e .mode)) (e .key); fed = e .fed; drawn = outputOf e (e .drawn); feeding = e .feeding; runs = runsOf e }
+    record { issue = issuedBy (Is (e .mode)) (e .key); fed = e .fed; drawn = outputOf e (e .drawn); feeding = e .feeding; runs = runsOf e }
 
 unfoldable pub reading : ℕ → Machine → Reading
 reading t m = readingOf (all number t (m .entries))
@@ -71,13 +73,13 @@ unfolding outputOf oneShot output squeezeBytes
 no-output e = refl
 
 -- an accepted open begins what is said of its ticket
-reads-new : (m : Machine) → Sound m → (n : ℕ) (mode : Mode) (key : List ℕ) → numberOf mode ≡ n
-    → Reads m (Open n key) (step (withNew mode key m) (opened (m .next) (runsOf (newEntry (m .next) mode key))) [])
+reads-new : (m : Machine) → Sound m → (n : ℕ) (mode : Mode) (key : List ℕ) (tagLength : ℕ) → named n tagLength ≡ Is mode
+    → Reads m (Open n key tagLength) (step (withNew mode key m) (opened (m .next) (runsOf (newEntry (m .next) mode key))) [])
 unfolding reading readCall readingOf newEntry
-reads-new m s n mode key h =
-    reads-one m (Open n key) _ (m .next) (λ t. refl)
+reads-new m s n mode key tagLength h =
+    reads-one m (Open n key tagLength) _ (m .next) (λ t. refl)
     (rw (s .above (m .next) (le-refl (m .next)), new-here m s mode key)
-    (reading-path (ap (λ (k : ℕ). issuedBy k key) (sym h)) refl (sym (no-output (newEntry (m .next) mode key))) refl refl))
+    (reading-path (ap (λ (x : Named). issuedBy x key) h) refl (sym (no-output (newEntry (m .next) mode key))) refl refl))
     (λ t n. new-other m s mode key t (λ z. n (sym z)))
 
 -- a sum is on no ticket
@@ -116,7 +118,7 @@ reads-refused m c buffer n h = record {
 reads-outcome : (m : Machine) → Sound m → {c : Call} {r : Step Machine} → Outcome m c r → Reads m c r
 unfolding withNew readCall readingOf outputOf afterFeed afterDraw afterClose
 reads-outcome m s (refuses c buffer n h) = reads-refused m c buffer n h
-reads-outcome m s (issues n mode key h room) = reads-new m s n mode key h
+reads-outcome m s (issues n mode key tagLength h short room) = reads-new m s n mode key tagLength h
 reads-outcome m s (feeds t bytes e o h room) =
     reads-change m (Feed t bytes) (counted (runsOf (afterFeed bytes e))) _ t e (afterFeed bytes e) o refl (λ u. refl)
     (reading-path refl refl (drawn-feeding bytes e (o .good) h) (and-true (e .feeding)) refl)

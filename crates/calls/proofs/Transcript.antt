@@ -7,6 +7,8 @@ use Prim.Native.Nat.{ℕ}
 use Rattle.word.specs.Word.{bit, word, number, column, rotr}
 use Rattle.word.specs.Bytes.{weight, byteAt, bytesFrom, xorWord, xorAt, xorFrom, fromBytes, toBytes, wordsOf, zerosTo}
 use Rattle.permutation.specs.Permutation.{sbox, addConstant, atEveryPlace, substitute, mix, diffuse, round, permute}
+use Rattle.mode.specs.declared.Mode.the-variants.{Mac, Hash}
+use Rattle.mode.specs.declared.Named.the-variants.{Is}
 use Rattle.mode.specs.Mode.{row, named}
 use Rattle.sponge.specs.Sponge.{ceiling, initial, start, pad, cut, blocks, flipIf, absorbBlocks, absorbMessage, squeezeBlocks, squeezeBytes, output, oneShot, runsFeeding, runsEnded}
 use Rattle.calls.specs.Answer.{refused, counted}
@@ -23,10 +25,10 @@ key = 0 ∷ 1 ∷ 2 ∷ 3 ∷ 4 ∷ 5 ∷ 6 ∷ 7 ∷ 8 ∷ 9 ∷ 10 ∷ 11 ∷ 
 
 abbrev calls : List Call
 calls =
-    Feed 1 (9 ∷ []) ∷ Open 7 [] ∷ Open 3 [] ∷ Sum ∷ Open 2 key
+    Feed 1 (9 ∷ []) ∷ Open 7 [] 0 ∷ Open 3 [] 7 ∷ Sum ∷ Open 2 key 16
     ∷ Feed 1 (1 ∷ 2 ∷ 3 ∷ 4 ∷ 5 ∷ 6 ∷ 7 ∷ []) ∷ Draw 2 (0 ∷ []) 1 1 ∷ Feed 1 (8 ∷ 9 ∷ [])
     ∷ Draw 2 (7 ∷ 7 ∷ 7 ∷ 7 ∷ []) 1 2 ∷ Feed 2 [] ∷ Draw 2 (7 ∷ 7 ∷ []) 0 1 ∷ Close 1 ∷ Feed 1 (5 ∷ [])
-    ∷ Open 2 key ∷ Check 3 (1 ∷ 2 ∷ 3 ∷ 4 ∷ 5 ∷ 6 ∷ 7 ∷ 8 ∷ []) ∷ Sum ∷ []
+    ∷ Open 2 key 17 ∷ Open 2 key 8 ∷ Check 3 (1 ∷ 2 ∷ 3 ∷ 4 ∷ 5 ∷ 6 ∷ 7 ∷ 8 ∷ []) ∷ Sum ∷ []
 
 abbrev list : List Event
 list = events machine emptyMachine calls
@@ -38,13 +40,14 @@ tickets-read = refl
 
 -- of each ticket: what its open named, the bytes fed, whether feeding lasts, the run count, the bytes drawn
 pub ticket-read :
-    (issueOf 0 list ≡ unissued) × (issueOf 1 list ≡ issuedBy 3 []) × (issueOf 2 list ≡ issuedBy 2 key) × (issueOf 4 list ≡ unissued)
+    (issueOf 0 list ≡ unissued) × (issueOf 1 list ≡ issuedBy (Is Hash) []) × (issueOf 2 list ≡ issuedBy (Is (Mac 16)) key)
+    × (issueOf 3 list ≡ issuedBy (Is (Mac 8)) key) × (issueOf 4 list ≡ unissued)
     × (bytesFed 1 list ≡ 1 ∷ 2 ∷ 3 ∷ 4 ∷ 5 ∷ 6 ∷ 7 ∷ 8 ∷ 9 ∷ []) × (bytesFed 2 list ≡ []) × (bytesFed 3 list ≡ [])
     × (feedingLasts 1 list ≡ true) × (feedingLasts 2 list ≡ false) × (feedingLasts 3 list ≡ false)
     × (runCount 1 list ≡ 2) × (runCount 2 list ≡ 2) × (runCount 3 list ≡ 2) × (runCount 4 list ≡ 0)
     × (bytesDrawn 1 list ≡ []) × (bytesDrawn 2 list ≡ 0xeb ∷ 0x1a ∷ 0xf6 ∷ [])
 unfolding issueOf bytesFed bytesDrawn feedingLasts lastRuns runCount events machine emptyMachine openMachine openChecks named admit newEntry runsOf formula runsFeeding runsEnded ceiling start openCount total feedMachine drawMachine checkMachine closeMachine ticketChecks feedChecks feedOwn drawChecks drawOwn checkChecks checkOwn standingOf entryOf placeOf find afterFeed afterDraw afterClose put sumMachine written outputOf oneShot output squeezeBytes squeezeBlocks absorbMessage absorbBlocks flipIf blocks cut pad initial fromBytes toBytes wordsOf zerosTo xorFrom xorAt xorWord bytesFrom byteAt weight permute round diffuse substitute atEveryPlace sbox addConstant mix rotr column number word bit
-ticket-read = (refl, refl, refl, refl, refl, refl, refl, refl, refl, refl, refl, refl, refl, refl, refl, refl)
+ticket-read = (refl, refl, refl, refl, refl, refl, refl, refl, refl, refl, refl, refl, refl, refl, refl, refl, refl)
 
 -- the calls that name ticket 1 once it is issued, refused ones included
 pub named-read : (callsOf (naming 1 (afterIssue 1 list))

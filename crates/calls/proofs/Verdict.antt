@@ -1,53 +1,83 @@
--- The verdict of an accepted check on the plain machine: it passes exactly where the tag is as many first bytes of the MAC.
+-- Tag lengths on the plain machine: that they count in mode 2 alone, and that an accepted check passes exactly where the tag is the MAC.
 -- Assumes nothing.
-use mathlib.Core.Bool.{Bool, true, false}
-use mathlib.Core.Path.{_≡_, sym, ap, _∙_}
-use mathlib.Core.Logic.{_≢_}
+use mathlib.Core.Bool.{Bool, true, false, false≢true}
+use mathlib.Core.Path.{_≡_, refl, sym, ap, ap₂, _∙_}
 use mathlib.Core.List.{List, [], _∷_}
-use Prim.Native.Nat.{ℕ, _≤_}
-use native.Mathlib.Nat.{add-zero}
-use lib.ListN.{length, take}
+use Prim.Native.Nat.{ℕ}
+use native.Mathlib.Omega.{arith}
+use borrow.Author.Tests.{ne-eqb}
+use lib.Dec.{eqb}
 use Rattle.checks.specs.Equality.{same}
+use Rattle.checks.proofs.Checks.{checked-nonzero}
 use Rattle.checks.proofs.Equality.{equal-same, other-same}
+use Rattle.mode.specs.declared.Mode.{Mode}
 use Rattle.mode.specs.declared.Mode.the-variants.{Mac}
-use Rattle.mode.specs.Mode.{row}
-use Rattle.sponge.specs.Sponge.{start, oneShot, runsEnded}
-use Rattle.calls.specs.Answer.{judged}
-use Rattle.calls.specs.Call.{Step, step, refuse}
-use Rattle.calls.specs.Machine.{Entry, Machine, formula, runsOf, outputOf, afterDraw, put, checkMachine}
+use Rattle.mode.specs.declared.Named.{Named}
+use Rattle.mode.specs.declared.Named.the-variants.{Is}
+use Rattle.mode.specs.Mode.{row, named}
+use Rattle.mode.proofs.Modes.{length-ignored}
+use Rattle.sponge.specs.Sponge.{oneShot}
+use Rattle.calls.specs.Answer.{accepted, judged}
+use Rattle.calls.specs.Call.{Call, Check, Step, step, refuse, events, final}
+use Rattle.calls.specs.Checks.{Standing, ticketChecks, checkOwn, checkChecks}
+use Rattle.calls.specs.Law.{LengthIgnored, macFed, Verdicts}
+use Rattle.calls.specs.Lists.{Issue, issuedBy, issueOf, bytesFed}
+use Rattle.calls.specs.Machine.{Entry, Machine, emptyMachine, runsOf, outputOf, afterDraw, put, openMachine, checkMachine, machine}
 use Rattle.calls.proofs.Keyed.{all}
-use Rattle.calls.proofs.Entries.{number, entry-is, standing-is}
-use Rattle.calls.proofs.Output.{take-output}
-use Rattle.calls.proofs.Refusals.{check-done}
+use Rattle.calls.proofs.Checks.{checks-ignore}
+use Rattle.calls.proofs.Entries.{number, standingFor}
+use Rattle.calls.proofs.Outcomes.{OpenTicket, at-ticket}
+use Rattle.calls.proofs.Readings.{Reading, unread, readOn}
+use Rattle.calls.proofs.Sound.{sound-empty, sound-final}
+use Rattle.calls.proofs.Tickets.{readingOf}
+use Rattle.calls.proofs.Law.{entry-says}
 
--- the 16 bytes of the MAC of a message
-abbrev pub macOf : List ℕ → List ℕ → List ℕ
-macOf key message = oneShot (row Mac) key message 16
+-- ---- a tag length that is ignored
 
--- they begin with the d bytes that are asked for
-pub mac-begins : (key message : List ℕ) (d : ℕ) → d ≤ 16 → oneShot (row Mac) key message d ≡ take d (macOf key message)
-mac-begins key message d h = sym (take-output Mac key message d 16 h)
+pub machine-ignores : LengthIgnored machine emptyMachine
+unfolding machine openMachine
+machine-ignores mode a b key other m = rw (checks-ignore mode a b other, length-ignored mode a b other)
 
--- the entry of an open ticket of mode 2
-abbrev pub macEntry : ℕ → List ℕ → List ℕ → Bool → ℕ → Entry
-macEntry t key fed feeding drawn = record { number = t; isOpen = true; mode = Mac; key = key; fed = fed; feeding = feeding; drawn = drawn }
+-- ---- the verdict
 
--- whether feeding lasts, and how many bytes are drawn, makes no difference to the verdict
-module _ (t : ℕ) (m : Machine) (key fed : List ℕ) (feeding : Bool) (drawn : ℕ) (here : all number t (m .entries) ≡ macEntry t key fed feeding drawn ∷ [])
-    (tag : List ℕ) (low : 8 ≤ length tag) (high : length tag ≤ 16) where
-  verdict : (passed : Bool) → same tag (take (length tag) (macOf key fed)) ≡ passed
-      → checkMachine t tag m .response .answer ≡ judged passed (runsEnded (row Mac) 1 (length fed) drawn)
-  unfolding checkMachine outputOf runsOf formula afterDraw start
-  verdict passed compared =
-      let e : Entry = macEntry t key fed feeding drawn in
-      let after : Entry = afterDraw 0 e in
-      rw (standing-is t m e here, entry-is t m e here)
-      (ap (λ (s : Step Machine). s .response .answer)
-      (check-done (refuse m []) (step (put t after m) (judged (same tag (outputOf after (length tag))) (runsOf after)) []) feeding (length fed) drawn tag low high)
-      ∙ rw (add-zero, mac-begins key fed (length tag) high, compared))
+module _ (calls : List Call) (t own : ℕ) (key tag : List ℕ) (issued : issueOf t (events machine emptyMachine calls) ≡ issuedBy (Is (Mac own)) key) where
+  abbrev end : Machine
+  end = final machine emptyMachine calls
 
-  pub passes : tag ≡ take (length tag) (macOf key fed) → checkMachine t tag m .response .answer ≡ judged true (runsEnded (row Mac) 1 (length fed) drawn)
-  passes h = verdict true (equal-same tag (take (length tag) (macOf key fed)) h)
+  abbrev mac : List ℕ
+  mac = macFed machine emptyMachine calls t own key
 
-  pub fails : tag ≢ take (length tag) (macOf key fed) → checkMachine t tag m .response .answer ≡ judged false (runsEnded (row Mac) 1 (length fed) drawn)
-  fails h = verdict false (other-same tag (take (length tag) (macOf key fed)) h)
+  -- what the ticket's entry gives, as much as is drawn of it
+  whole : (e : Entry) → all number t (end .entries) ≡ e ∷ [] → outputOf (afterDraw 0 e) (row (e .mode) .mostDrawn) ≡ mac
+  unfolding readOn readingOf outputOf afterDraw
+  whole e h =
+      let says : readOn t (events machine emptyMachine calls) unread ≡ readingOf (e ∷ []) = entry-says calls t e h in
+      let same-issue : issuedBy (Is (e .mode)) (e .key) ≡ issuedBy (Is (Mac own)) key = sym (ap (λ (x : Reading). x .issue) says) ∙ issued in
+      let modes : e .mode ≡ Mac own = cc in
+      let keys : e .key ≡ key = cc in
+      ap₂ (λ (a : Mode) (k : List ℕ). oneShot (row a) k (e .fed) (row a .mostDrawn)) modes keys
+      ∙ ap (λ (m : List ℕ). oneShot (row (Mac own)) key m own) (sym (ap (λ (x : Reading). x .fed) says))
+
+  -- a step after which an accepted answer has the verdict
+  Judges : Step Machine → Type 0
+  Judges s = accepted (s .response .answer) ≡ true → s .response .answer .passed ≡ same tag mac
+
+  refused-judges : (n : ℕ) → eqb n 0 ≡ false → Judges (refuse end [] n)
+  unfolding Judges
+  refused-judges n h ok = absurd (false≢true (sym h ∙ ok))
+
+  judges : Judges (machine (Check t tag) end)
+  unfolding Judges machine checkMachine checkChecks checkOwn ticketChecks afterDraw
+  judges =
+      at-ticket Judges t [] end (sound-final calls emptyMachine sound-empty) (λ x. checkOwn x tag)
+      (λ e. step (put t (afterDraw 0 e) end) (judged (same tag (outputOf (afterDraw 0 e) (row (e .mode) .mostDrawn))) (runsOf (afterDraw 0 e))) [])
+      (refused-judges 11 refl) (refused-judges 12 refl)
+      (λ e o. checked-nonzero Judges (checkOwn (standingFor e) tag) (refuse end []) _ (λ z. omega arith, (λ z. omega arith, tt))
+      (λ n z. refused-judges n (ne-eqb n 0 z)) (λ pass ok. ap (same tag) (whole e (o .only))))
+
+pub machine-verdicts : Verdicts machine emptyMachine
+unfolding Judges
+machine-verdicts calls t own key tag issued ok =
+    let judged : machine (Check t tag) (final machine emptyMachine calls) .response .answer .passed ≡ same tag (macFed machine emptyMachine calls t own key) =
+    judges calls t own key tag issued ok in
+    (λ h. judged ∙ equal-same tag _ h, λ h. judged ∙ other-same tag _ h)

@@ -7,7 +7,7 @@ use Rattle.calls.specs.Answer.{refused}
 
 -- all arguments are values, a draw's buffer as it was lent among them
 pub data Call : Type 0 where
-  Open : (mode : ℕ) (key : List ℕ) → Call
+  Open : (mode : ℕ) (key : List ℕ) (tagLength : ℕ) → Call
   Feed : (ticket : ℕ) (bytes : List ℕ) → Call
   Draw : (ticket : ℕ) (buffer : List ℕ) (place count : ℕ) → Call
   Check : (ticket : ℕ) (tag : List ℕ) → Call

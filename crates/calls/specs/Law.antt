@@ -1,15 +1,20 @@
 -- Document 01's third demand, as statements about anything that answers calls: S is a hub, or another machine, `run` what a call makes of it and `empty` what a list
 -- begins with.
 -- Assumes nothing.
+use mathlib.Core.Bool.{true, false}
 use mathlib.Core.Path.{_≡_}
+use mathlib.Core.Logic.{_≢_}
 use mathlib.Core.List.{List, [], _∷_}
 use Prim.Native.Nat.{ℕ, zero, suc, _+_}
 use lib.ListN.{length}
 use Rattle.mode.specs.declared.Mode.{Mode}
-use Rattle.mode.specs.Mode.{row, numberOf}
+use Rattle.mode.specs.declared.Mode.the-variants.{Mac}
+use Rattle.mode.specs.declared.Named.{Named}
+use Rattle.mode.specs.declared.Named.the-variants.{Is}
+use Rattle.mode.specs.Mode.{row}
 use Rattle.sponge.specs.Sponge.{oneShot}
-use Rattle.calls.specs.Answer.{summed}
-use Rattle.calls.specs.Call.{Call, Sum, Step, Event, events, final}
+use Rattle.calls.specs.Answer.{accepted, summed}
+use Rattle.calls.specs.Call.{Call, Open, Check, Sum, Step, Event, events, final}
 use Rattle.calls.specs.Keyed.{total}
 use Rattle.calls.specs.Machine.{formula, emptyMachine, machine}
 use Rattle.calls.specs.Lists.{issuedBy, issueOf, bytesFed, bytesDrawn, feedingLasts, runCount, tickets, afterIssue, naming, callsOf}
@@ -26,11 +31,11 @@ module _ {S : Type 0} (run : Call → S → Step S) (empty : S) where
 
   -- The law over one list of calls, refused ones included.
   pub record Law (calls : List Call) : Type 0 where
-    -- of a ticket that was issued for a mode and a key, the bytes drawn, d in all, are the first d bytes of the one-shot output for the bytes fed
-    pub bytes : (t : ℕ) (mode : Mode) (key : List ℕ) → issueOf t (transcript calls) ≡ issuedBy (numberOf mode) key
+    -- of a ticket that was issued for a mode, with its tag length, and a key, the bytes drawn, d in all, are the first d bytes of the one-shot output for the bytes fed
+    pub bytes : (t : ℕ) (mode : Mode) (key : List ℕ) → issueOf t (transcript calls) ≡ issuedBy (Is mode) key
         → bytesDrawn t (transcript calls) ≡ oneShot (row mode) key (bytesFed t (transcript calls)) (length (bytesDrawn t (transcript calls)))
     -- its run count, given by the last accepted call on it, is the formula: for whether feeding lasts, n bytes fed and d drawn
-    pub count : (t : ℕ) (mode : Mode) (key : List ℕ) → issueOf t (transcript calls) ≡ issuedBy (numberOf mode) key
+    pub count : (t : ℕ) (mode : Mode) (key : List ℕ) → issueOf t (transcript calls) ≡ issuedBy (Is mode) key
         → runCount t (transcript calls)
         ≡ formula mode key (feedingLasts t (transcript calls)) (length (bytesFed t (transcript calls))) (length (bytesDrawn t (transcript calls)))
     -- the sum after the list, which a sum call gives next, is the run counts of all tickets issued in it, added up
@@ -46,12 +51,32 @@ module _ {S : Type 0} (run : Call → S → Step S) (empty : S) where
   abbrev pub exchanges : ℕ → List Call → List Event
   exchanges t calls = naming t (afterIssue t (transcript calls))
 
-  -- Tickets stand apart. In two lists ticket t, by that number in both, was issued for the same mode and key, and the calls that name it from then on are the
+  -- Tickets stand apart. In two lists ticket t, by that number in both, was issued for the same mode, with its tag length, and the same key, and the calls that name it from then on are the
   -- same, in the same order: then they get the same answers and the same buffers, whatever else the lists hold.
   abbrev pub Apart : Type 0
   Apart =
-      (calls others : List Call) (t mode : ℕ) (key : List ℕ)
+      (calls others : List Call) (t : ℕ) (mode : Named) (key : List ℕ)
       → issueOf t (transcript calls) ≡ issuedBy mode key
       → issueOf t (transcript others) ≡ issuedBy mode key
       → callsOf (exchanges t calls) ≡ callsOf (exchanges t others)
       → exchanges t calls ≡ exchanges t others
+
+  -- ---- request K2's tag lengths
+
+  -- A tag length counts in mode 2 alone. Two opens in another mode that differ in it alone are alike: in what they leave and in what they get.
+  abbrev pub LengthIgnored : Type 0
+  LengthIgnored = (mode a b : ℕ) (key : List ℕ) → mode ≢ 2 → (s : S) → run (Open mode key a) s ≡ run (Open mode key b) s
+
+  -- the MAC of all that a list feeds to a ticket, with tags of so many bytes
+  abbrev pub macFed : List Call → ℕ → ℕ → List ℕ → List ℕ
+  macFed calls t length key = oneShot (row (Mac length)) key (bytesFed t (transcript calls)) length
+
+  -- The verdict. A check after a list, on a ticket that was issued for mode 2 with this tag length and this key: if it is accepted, it passes where the tag is the MAC of
+  -- the bytes fed, whole, and fails where it is anything else.
+  abbrev pub Verdicts : Type 0
+  Verdicts =
+      (calls : List Call) (t length : ℕ) (key tag : List ℕ)
+      → issueOf t (transcript calls) ≡ issuedBy (Is (Mac length)) key
+      → accepted (run (Check t tag) (final run empty calls) .response .answer) ≡ true
+      → (tag ≡ macFed calls t length key → run (Check t tag) (final run empty calls) .response .answer .passed ≡ true)
+      × (tag ≢ macFed calls t length key → run (Check t tag) (final run empty calls) .response .answer .passed ≡ false)

@@ -101,9 +101,10 @@ admit (Is mode) key m =
     step (record { next = m .next + 1; entries = m .entries ++ (e ∷ []) }) (opened (m .next) (runsOf e)) []
 admit NoMode key m = refuse m [] 1
 
-unfoldable pub openMachine : ℕ → List ℕ → Machine → Step Machine
-openMachine mode key m =
-    checked (refuse m []) (openChecks (named mode) key (length (m .entries)) (leb mostOpen (openCount m))) (admit (named mode) key m)
+unfoldable pub openMachine : ℕ → List ℕ → ℕ → Machine → Step Machine
+openMachine mode key tagLength m =
+    let meant : Named = named mode tagLength in
+    checked (refuse m []) (openChecks meant key tagLength (length (m .entries)) (leb mostOpen (openCount m))) (admit meant key m)
 
 unfoldable pub feedMachine : ℕ → List ℕ → Machine → Step Machine
 feedMachine t bytes m =
@@ -118,11 +119,11 @@ drawMachine t buffer place count m =
     checked (refuse m buffer) (drawChecks (standingOf t m) buffer place count)
     (step (put t e m) (counted (runsOf e)) (written buffer place (drop (before .drawn) (outputOf before (before .drawn + count)))))
 
--- the tag passes if it equals as many first bytes of the output
+-- the tag passes if it equals the whole output, all that is drawn of a MAC
 unfoldable pub checkMachine : ℕ → List ℕ → Machine → Step Machine
 checkMachine t tag m =
     let e : Entry = afterDraw 0 (entryOf t m) in
-    checked (refuse m []) (checkChecks (standingOf t m) tag) (step (put t e m) (judged (same tag (outputOf e (length tag))) (runsOf e)) [])
+    checked (refuse m []) (checkChecks (standingOf t m) tag) (step (put t e m) (judged (same tag (outputOf e (row (e .mode) .mostDrawn))) (runsOf e)) [])
 
 unfoldable pub closeMachine : ℕ → Machine → Step Machine
 closeMachine t m =
@@ -134,7 +135,7 @@ unfoldable pub sumMachine : Machine → Step Machine
 sumMachine m = step m (summed (total runsOf (m .entries))) []
 
 unfoldable pub machine : Call → Machine → Step Machine
-machine (Open mode key) m = openMachine mode key m
+machine (Open mode key tagLength) m = openMachine mode key tagLength m
 machine (Feed t bytes) m = feedMachine t bytes m
 machine (Draw t buffer place count) m = drawMachine t buffer place count m
 machine (Check t tag) m = checkMachine t tag m

@@ -25,9 +25,10 @@ use Rattle.day.specs.Day.{lent, callOf, turnAt, turnsFrom, beginText, st
 -- ---- which call is planned
 
 module _ (sample : List ℕ) {p : Planned} where
-  pub is-open : {mode start n : ℕ} {key : List ℕ} → p ≡ planned.Open mode start n → key ≡ part start n sample → callOf p sample ≡ Open mode key
+  pub is-open : {mode start n tagLength : ℕ} {key : List ℕ} → p ≡ planned.Open mode start n tagLength → key ≡ part start n sample
+      → callOf p sample ≡ Open mode key tagLength
   unfolding callOf
-  is-open {mode} e k = ap (λ (q : Planned). callOf q sample) e ∙ ap (Open mode) (sym k)
+  is-open {mode} {start} {n} {tagLength} e k = ap (λ (q : Planned). callOf q sample) e ∙ ap (λ (l : List ℕ). Open mode l tagLength) (sym k)
 
   pub is-feed : {ticket start n : ℕ} {bytes : List ℕ} → p ≡ planned.Feed ticket start n → bytes ≡ part start n sample → callOf p sample ≡ Feed ticket bytes
   unfolding callOf
@@ -64,11 +65,11 @@ as-planned {c} {d} {h} {first} {last} {at} {r} e l = subst (λ (x : Call). Lists
 -- ---- which turn it is
 
 module _ (i : ℕ) where
-  pub opens-keyed : i < 16 → i % 6 < 2 → turnAt i ≡ planned.Open (i % 6 + 1) i 16
+  pub opens-keyed : i < 16 → i % 6 < 2 → turnAt i ≡ planned.Open (i % 6 + 1) i 16 (i % 9 + 8)
   unfolding turnAt
   opens-keyed h k = rw (lt-ltb i 16 h, lt-ltb (i % 6) 2 k)
 
-  pub opens-unkeyed : i < 16 → 2 ≤ i % 6 → turnAt i ≡ planned.Open (i % 6 + 1) i 0
+  pub opens-unkeyed : i < 16 → 2 ≤ i % 6 → turnAt i ≡ planned.Open (i % 6 + 1) i 0 0
   unfolding turnAt
   opens-unkeyed h k = rw (lt-ltb i 16 h, le-ltb (i % 6) 2 k)
 

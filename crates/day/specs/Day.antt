@@ -26,17 +26,17 @@ alike byte n = take n (replicate 4096 byte)
 
 -- the call that is planned
 unfoldable pub callOf : Planned → List ℕ → Call
-callOf (planned.Open mode start n) sample = Open mode (part start n sample)
+callOf (planned.Open mode start n tagLength) sample = Open mode (part start n sample) tagLength
 callOf (planned.Feed ticket start n) sample = Feed ticket (part start n sample)
 callOf (planned.Draw ticket n place count) sample = Draw ticket (lent n) place count
 callOf (planned.Check ticket start n) sample = Check ticket (part start n sample)
 callOf (planned.Close ticket) sample = Close ticket
 callOf planned.Sum sample = Sum
 
--- turn number i: sixteen lines open, feed, draw and close by turns. Modes 1 and 2 get a key
+-- turn number i: sixteen lines open, feed, draw and close by turns. Modes 1 and 2 get a key and a tag length
 unfoldable pub turnAt : ℕ → Planned
 turnAt i =
-    cond (ltb i 16) (planned.Open (i % 6 + 1) i (cond (ltb (i % 6) 2) 16 0))
+    cond (ltb i 16) (cond (ltb (i % 6) 2) (planned.Open (i % 6 + 1) i 16 (i % 9 + 8)) (planned.Open (i % 6 + 1) i 0 0))
     (cond (ltb i 96) (planned.Feed (i % 16 + 1) (i % 12) (i % 37 * 5 % 37))
     (cond (ltb i 192) (planned.Draw (i % 16 + 1) 48 (i % 41) (i % 23 * 7 % 23)) (planned.Close (i / 2 % 20))))
 

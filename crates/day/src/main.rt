@@ -13,10 +13,10 @@ ghost use Rattle.listing.specs.Listing.{Lists};
 ghost use Rattle.day.specs.declared.Step.the-variants.{FeedOften};
 ghost use Rattle.day.specs.Day as spec;
 
-// A call of the plan. Its bytes are so many of the sample from a place on: after the mode or the ticket stand the place and how many. A draw has the length of the
-// buffer that it is lent, the place and the count.
+// A call of the plan. Its bytes are so many of the sample from a place on: after the mode or the ticket stand the place and how many. An open has a tag length then; a
+// draw has the length of the buffer that it is lent, the place and the count.
 enum Planned {
-    Open(u32, usize, usize),
+    Open(u32, usize, usize, u32),
     Feed(u32, usize, usize),
     Draw(u32, usize, usize, usize),
     Check(u32, usize, usize),
@@ -32,28 +32,32 @@ enum Step {
     FeedOften(u32, u8, usize, usize),
 }
 
-const STEPS: usize = 80;
+const STEPS: usize = 90;
 
-const DAY: [Step; 80] = [
-    // No ticket is issued yet: every ticket is refused, and so are opens that name no mode or bring a wrong key.
+const DAY: [Step; 90] = [
+    // No ticket is issued yet: every ticket is refused, and so are opens that name no mode, bring a wrong key or name a wrong
+    // tag length.
     Step::Begin,
     Step::Make(Planned::Sum),
     Step::Make(Planned::Feed(1, 0, 3)),
     Step::Make(Planned::Draw(0, 8, 0, 1)),
     Step::Make(Planned::Check(4294967295, 0, 8)),
     Step::Make(Planned::Close(1)),
-    Step::Make(Planned::Open(0, 0, 0)),
-    Step::Make(Planned::Open(7, 0, 16)),
-    Step::Make(Planned::Open(1, 0, 15)),
-    Step::Make(Planned::Open(2, 0, 17)),
-    Step::Make(Planned::Open(3, 0, 16)),
-    Step::Make(Planned::Open(4, 0, 1)),
-    Step::Make(Planned::Open(5, 0, 16)),
-    Step::Make(Planned::Open(6, 0, 1)),
+    Step::Make(Planned::Open(0, 0, 0, 0)),
+    Step::Make(Planned::Open(7, 0, 16, 0)),
+    Step::Make(Planned::Open(1, 0, 15, 0)),
+    Step::Make(Planned::Open(2, 0, 17, 7)),
+    Step::Make(Planned::Open(2, 0, 16, 7)),
+    Step::Make(Planned::Open(2, 0, 16, 17)),
+    Step::Make(Planned::Open(2, 0, 16, 264)),
+    Step::Make(Planned::Open(3, 0, 16, 0)),
+    Step::Make(Planned::Open(4, 0, 1, 0)),
+    Step::Make(Planned::Open(5, 0, 16, 0)),
+    Step::Make(Planned::Open(6, 0, 1, 0)),
     // Sixteen lines open, and there is no place for a seventeenth. All are fed, drawn from and closed by turns. The sum keeps them all, and a place serves again.
     Step::Begin,
     Step::Turns(0, 16),
-    Step::Make(Planned::Open(1, 0, 16)),
+    Step::Make(Planned::Open(1, 0, 16, 0)),
     Step::Make(Planned::Close(17)),
     Step::Turns(16, 96),
     Step::Make(Planned::Sum),
@@ -61,12 +65,12 @@ const DAY: [Step; 80] = [
     Step::Make(Planned::Sum),
     Step::Turns(192, 232),
     Step::Make(Planned::Sum),
-    Step::Make(Planned::Open(3, 0, 0)),
+    Step::Make(Planned::Open(3, 0, 0, 0)),
     Step::Make(Planned::Sum),
     // A check ends feeding; so does a draw of nothing. Parts of a buffer end past what a usize holds.
     Step::Begin,
-    Step::Make(Planned::Open(2, 0, 16)),
-    Step::Make(Planned::Open(3, 0, 0)),
+    Step::Make(Planned::Open(2, 0, 16, 16)),
+    Step::Make(Planned::Open(3, 0, 0, 0)),
     Step::Make(Planned::Check(2, 0, 7)),
     Step::Make(Planned::Check(1, 0, 7)),
     Step::Make(Planned::Check(1, 0, 17)),
@@ -81,10 +85,11 @@ const DAY: [Step; 80] = [
     Step::Make(Planned::Draw(2, 8, 1, 8)),
     Step::Make(Planned::Draw(2, 8, 18446744073709551615, 1)),
     Step::Make(Planned::Draw(2, 8, 1, 18446744073709551615)),
-    // Two lines under one key: the tag that one gives the other takes, whole or its first eight bytes, and a damaged one fails.
+    // Two lines under one key: the tag that one gives the other takes, but not its first eight bytes, and a damaged one fails. A third, with tags of eight bytes, takes its
+    // own and not those eight.
     Step::Begin,
-    Step::Make(Planned::Open(2, 0, 16)),
-    Step::Make(Planned::Open(2, 0, 16)),
+    Step::Make(Planned::Open(2, 0, 16, 16)),
+    Step::Make(Planned::Open(2, 0, 16, 16)),
     Step::Make(Planned::Feed(1, 0, 32)),
     Step::Make(Planned::Feed(2, 0, 5)),
     Step::Make(Planned::Feed(2, 5, 27)),
@@ -95,15 +100,22 @@ const DAY: [Step; 80] = [
     Step::Make(Planned::Check(2, 64, 15)),
     Step::Make(Planned::Check(1, 48, 16)),
     Step::Make(Planned::Draw(1, 24, 0, 1)),
+    Step::Make(Planned::Open(2, 0, 16, 8)),
+    Step::Make(Planned::Feed(3, 0, 32)),
+    Step::Make(Planned::Check(3, 80, 8)),
+    Step::Make(Planned::Check(3, 48, 8)),
+    Step::Make(Planned::Check(3, 48, 16)),
+    Step::Make(Planned::Draw(3, 24, 4, 9)),
+    Step::Make(Planned::Draw(3, 24, 4, 8)),
     Step::Make(Planned::Sum),
     // A ticket that was closed stays so, though another has its place.
     Step::Begin,
-    Step::Make(Planned::Open(2, 0, 16)),
-    Step::Make(Planned::Open(4, 0, 0)),
+    Step::Make(Planned::Open(2, 0, 16, 16)),
+    Step::Make(Planned::Open(4, 0, 0, 0)),
     Step::Make(Planned::Feed(1, 0, 40)),
     Step::Make(Planned::Close(1)),
     Step::Make(Planned::Close(1)),
-    Step::Make(Planned::Open(2, 0, 16)),
+    Step::Make(Planned::Open(2, 0, 16, 16)),
     Step::Make(Planned::Close(1)),
     Step::Make(Planned::Feed(1, 0, 9)),
     Step::Make(Planned::Draw(1, 8, 0, 8)),
@@ -112,7 +124,7 @@ const DAY: [Step; 80] = [
     Step::Make(Planned::Sum),
     // A ticket is fed all that it may be, and one byte more.
     Step::Begin,
-    Step::Make(Planned::Open(1, 0, 16)),
+    Step::Make(Planned::Open(1, 0, 16, 0)),
     Step::FeedOften(1, 90, 4096, 4095),
     Step::Make(Planned::Feed(1, 0, 1)),
     Step::FeedOften(1, 165, 4095, 1),
@@ -124,8 +136,8 @@ const DAY: [Step; 80] = [
 ];
 
 // What messages, keys and tags are cut from: the bytes 0 to 31 of the outside vectors, and some others; from place 48 on the MAC of the first 32 of them under the
-// first 16, from the outside vectors; and from place 64 on the same with a bit changed.
-const SAMPLE: [u8; 80] = [
+// first 16, from the outside vectors; from place 64 on the same with a bit changed; and from place 80 on the MAC with tags of eight bytes.
+const SAMPLE: [u8; 88] = [
     0,
     1,
     2,
@@ -206,6 +218,14 @@ const SAMPLE: [u8; 80] = [
     111,
     3,
     238,
+    194,
+    227,
+    137,
+    147,
+    135,
+    167,
+    100,
+    101,
 ];
 
 // ---- calls
@@ -215,10 +235,11 @@ fn make(before: Hub, planned: Planned, sample: &[u8], text: &mut [u8], at: usize
     ensures { λ r. ⌜ Lists (spec.callOf planned (now (sample .entry)) ∷ []) before (now (text .entry)) at (now (text .exit)) r ⌝ }
 {
     match planned {
-        Planned::Open(mode, start, n) => listing::open(
+        Planned::Open(mode, start, n, length) => listing::open(
             before,
             mode,
             script::part(sample, start, n),
+            length,
             text,
             at,
         ),
@@ -246,16 +267,16 @@ fn make(before: Hub, planned: Planned, sample: &[u8], text: &mut [u8], at: usize
     }
 }
 
-// Turn number i of those that go through the lines: sixteen opens, the modes in turn; eighty feeds, some of no byte at all; ninety-six draws, some past the limits
+// Turn number i of those that go through the lines: sixteen opens, the modes in turn and with several tag lengths; eighty feeds, some of no byte at all; ninety-six draws, some past the limits
 // of modes 2 and 3 and some past the buffer's end; and closes, each ticket's twice.
 fn turn(i: usize) -> Planned
     ensures { λ r. ⌜ r ≡ spec.turnAt i ⌝ }
 {
     if i < 16 {
         if i % 6 < 2 {
-            return Planned::Open((i % 6 + 1) as u32, i, 16);
+            return Planned::Open((i % 6 + 1) as u32, i, 16, (i % 9 + 8) as u32);
         }
-        return Planned::Open((i % 6 + 1) as u32, i, 0);
+        return Planned::Open((i % 6 + 1) as u32, i, 0, 0);
     }
     let ticket = (i % 16 + 1) as u32;
     if i < 96 {
@@ -364,7 +385,7 @@ fn make_step(before: Hub, step: Step, sample: &[u8], text: &mut [u8], at: usize)
 }
 
 // The text of a whole plan, which begins with an empty hub, from the buffer's start on; answers the place behind it.
-fn list_plan(plan: [Step; 80], sample: &[u8], text: &mut [u8]) -> usize
+fn list_plan(plan: [Step; 90], sample: &[u8], text: &mut [u8]) -> usize
     ensures { λ r. ⌜ Wrote (now (text .entry)) 0 (spec.planText plan (now (sample .entry)) emptyHub) (now (text .exit)) r ⌝ }
 {
     let empty = Hub::empty();
@@ -381,7 +402,7 @@ fn list_plan(plan: [Step; 80], sample: &[u8], text: &mut [u8]) -> usize
     current.next
 }
 
-// The buffer is longer than the text, which has 56,230 bytes.
+// The buffer is longer than the text, which has 57,399 bytes.
 fn main() {
     let sample = SAMPLE;
     let mut text = [0u8; 65536];

@@ -57,8 +57,8 @@ module _ (key frame : List ℕ) (body : ℕ) (sixteen : length key ≡ 16) (room
   judged-tags = (λ p. same-equal _ _ (sym judged ∙ p), λ e. judged ∙ equal-same _ _ e)
 
   -- a frame passes where the sixteen bytes that begin at the end of its body are the MAC of the body, and nowhere else
-  pub judged-both-ways : (verifyAnswer key frame body .passed ≡ true → take 16 (drop body frame) ≡ oneShot (row Mac) key (take body frame) 16)
-      × (take 16 (drop body frame) ≡ oneShot (row Mac) key (take body frame) 16 → verifyAnswer key frame body .passed ≡ true)
+  pub judged-both-ways : (verifyAnswer key frame body .passed ≡ true → take 16 (drop body frame) ≡ oneShot (row (Mac 16)) key (take body frame) 16)
+      × (take 16 (drop body frame) ≡ oneShot (row (Mac 16)) key (take body frame) 16 → verifyAnswer key frame body .passed ≡ true)
   unfolding tagIn tagFor
   judged-both-ways = judged-tags
 
@@ -83,11 +83,11 @@ module _ (key frame : List ℕ) (body : ℕ) (sixteen : length key ≡ 16) (room
 
   sealed-needs : tagFor key sealed body ≡ tagFor key frame body
   unfolding tagFor
-  sealed-needs = ap (λ (m : List ℕ). oneShot (row Mac) key m 16) sealed-body
+  sealed-needs = ap (λ (m : List ℕ). oneShot (row (Mac 16)) key m 16) sealed-body
 
 -- sealing writes the MAC of the body into the sixteen bytes that begin at its end, and every other byte stays
 module _ (key frame : List ℕ) (body : ℕ) (sixteen : length key ≡ 16) (room : body + 16 ≤ length frame) where
-  pub sealed-tag : take 16 (drop body (sealAfter key frame body)) ≡ oneShot (row Mac) key (take body frame) 16
+  pub sealed-tag : take 16 (drop body (sealAfter key frame body)) ≡ oneShot (row (Mac 16)) key (take body frame) 16
   unfolding sealed tagIn tagFor
   sealed-tag = rw (seal-wrote key frame body (accepted key frame body sixteen room)) (sealed-has key frame body sixteen room)
 

@@ -15,9 +15,9 @@ use Rattle.sponge.specs.Sponge.{oneShot}
 use Rattle.frame.specs.declared.Sealed.{Sealed}
 use Rattle.frame.specs.declared.Judged.{Judged}
 
--- the tag that a frame should have: the MAC of its body
+-- the tag that a frame should have: the MAC of its body, with tags of sixteen bytes
 unfoldable pub tagFor : List ℕ → List ℕ → ℕ → List ℕ
-tagFor key frame body = oneShot (row Mac) key (take body frame) 16
+tagFor key frame body = oneShot (row (Mac 16)) key (take body frame) 16
 
 -- the tag that it has
 unfoldable pub tagIn : List ℕ → ℕ → List ℕ

@@ -6,6 +6,9 @@ ghost use Rattle.mode.specs.declared.Mode.the-variants.{Mac};
 ghost use Rattle.sponge.specs.Record.{fresh, absorbed, finished};
 ghost use Rattle.frame.specs.Frame as spec;
 
+// A frame's tag has so many bytes.
+pub const TAG_LENGTH: usize = 16;
+
 // What sealing answers: the number of a refusal, or 0 and the runs that were made.
 pub struct Sealed {
     pub refusal: u32,
@@ -26,7 +29,7 @@ fn refusal(key: &[u8], frame: &[u8], body: usize) -> u32
     if key.len() != Mode::KEY_LENGTH {
         return 2;
     }
-    if checks::exceeds(frame.len() as u64, body as u64, Mode::MAC_OUTPUT as u64) {
+    if checks::exceeds(frame.len() as u64, body as u64, TAG_LENGTH as u64) {
         return 3;
     }
     0
@@ -34,9 +37,10 @@ fn refusal(key: &[u8], frame: &[u8], body: usize) -> u32
 
 // A MAC's sponge that has been fed a body, ready to give the tag. It is under no ticket.
 fn absorb(key: &[u8], body: &[u8]) -> Record
-    ensures { λ r. ⌜ r ≡ finished (absorbed (now (body .entry)) (fresh 0 Mac (now (key .entry)))) ⌝ }
+    ensures { λ r. ⌜ r ≡ finished (absorbed (now (body .entry)) (fresh 0 (Mac 16) (now (key .entry)))) ⌝ }
 {
-    let fresh = Record::fresh(0, Mode::Mac, key);
+    let length = TAG_LENGTH as u8;
+    let fresh = Record::fresh(0, Mode::Mac(length), key);
     let fed = fresh.absorb(body);
     fed.finish()
 }
@@ -53,7 +57,7 @@ pub fn seal(key: &[u8], frame: &mut [u8], body: usize) -> Sealed
             runs: 0,
         };
     }
-    let end = body + Mode::MAC_OUTPUT;
+    let end = body + TAG_LENGTH;
     let ready = absorb(key, &frame[..body]);
     let drawn = ready.squeeze(&mut frame[body..end]);
     Sealed {
@@ -74,7 +78,7 @@ pub fn verify(key: &[u8], frame: &[u8], body: usize) -> Judged
             runs: 0,
         };
     }
-    let end = body + Mode::MAC_OUTPUT;
+    let end = body + TAG_LENGTH;
     let ready = absorb(key, &frame[..body]);
     Judged {
         refusal: 0,

@@ -1,18 +1,17 @@
 -- The hub and the plain machine agree: each call gets the same from both, and so does each call of a list.
 -- Assumes nothing.
-use mathlib.Core.Bool.{Bool, true, false, _||_, true≢false}
+use mathlib.Core.Bool.{Bool, true, false, true≢false}
 use mathlib.Core.Path.{_≡_, refl, sym, ap, ap₂, _∙_}
 use mathlib.Core.List.{List, [], _∷_, _++_}
 use Prim.Native.Nat.{ℕ, _+_, _≤_}
 use native.Mathlib.Omega.{arith}
 use borrow.Author.Tests.{eqb-true, ltb-false, not-false}
-use lib.Dec.{ltb}
 use lib.ListN.{length, drop}
 use Rattle.mode.specs.declared.Mode.{Mode}
 use Rattle.mode.specs.declared.Named.{Named}
 use Rattle.mode.specs.declared.Named.the-variants.{Is, NoMode}
 use Rattle.sponge.specs.declared.record.Record.{Record}
-use Rattle.mode.specs.Mode.{numberOf, named}
+use Rattle.mode.specs.Mode.{row, numberOf, named}
 use Rattle.sponge.specs.Record.{sum64, vacant, absorbed, finished, nextBytes, squeezed, tagMatches}
 use Rattle.sponge.proofs.Core.{sum64-fits}
 use Rattle.calls.specs.declared.Answer.{Answer}
@@ -21,13 +20,13 @@ use Rattle.calls.specs.Call.{Call, Open, Feed, Draw, Check, Close, Sum, Respons
 use Rattle.checks.specs.Checks.{OneCheck, checked}
 use Rattle.checks.specs.Buffers.{written}
 use Rattle.checks.specs.Equality.{same}
-use Rattle.calls.specs.Checks.{Standing, shortestTag, longestTag, openChecks, ticketChecks, feedOwn, feedChecks, drawOwn, drawChecks, checkOwn, checkChecks}
+use Rattle.calls.specs.Checks.{Standing, openChecks, ticketChecks, feedOwn, feedChecks, drawOwn, drawChecks, checkOwn, checkChecks}
 use Rattle.calls.specs.Keyed.{total}
 use Rattle.calls.specs.Machine.{Entry, Machine, emptyMachine, runsOf, outputOf, newEntry, afterFeed, afterDraw, afterClose, entryOf, openMachine, feedMachine, drawMachine, checkMachine, closeMachine, sumMachine, machine}
 use Rattle.calls.specs.Machine as plain
 use Rattle.calls.proofs.Keyed.{all, named-is}
 use Rattle.checks.proofs.Checks.{Pass, checked-both}
-use Rattle.calls.proofs.Checks.{never-issued, is-closed, is-open}
+use Rattle.calls.proofs.Checks.{never-issued, is-closed, is-open, Tagged, tagged}
 use Rattle.calls.proofs.Entries.{number, Good, Entered, missing, entered, Sound, standingFor, entry-is, standing-is, standing-none}
 use Rattle.calls.proofs.Sound.{withNew, good-new, good-fed, good-drawn, sound-empty, sound-step}
 use Rattle.hub.specs.declared.Hub.{Hub}
@@ -43,11 +42,6 @@ use Rattle.hub.proofs.Represents.{Represents, any, runsIn, runs-small, 
 pub record Same (a : Step Hub) (b : Step Machine) : Type 0 where
   pub responses : a .response ≡ b .response
   pub left : Represents (a .after) (b .after)
-
--- of two that do not hold, the second
-neither : (a b : Bool) → a || b ≡ false → b ≡ false
-neither true b h = absurd (true≢false h)
-neither false b h = h
 
 -- the checks of a call on a ticket, by its standing, and what is done where none fails
 abbrev onTicket : {S : Type 0} → S → List ℕ → (Standing → List OneCheck) → Standing → Step S → Step S
@@ -109,32 +103,33 @@ module _ (h : Hub) (m : Machine) (s : Sound m) (rep : Represents h m) where
       })
 
   -- one more ticket, in the first free place
-  admitted : (mode : Mode) (key : List ℕ) (x : Record) (xs : List Record) → all ticket 0 (h .records) ≡ x ∷ xs
+  admitted : (mode : Mode) (key : List ℕ) → Tagged mode → (x : Record) (xs : List Record) → all ticket 0 (h .records) ≡ x ∷ xs
       → Same (hub.admit (Is mode) key h) (plain.admit (Is mode) key m)
   unfolding hub.admit plain.admit withNew
-  admitted mode key x xs free =
+  admitted mode key short x xs free =
       rw (← next-is h m s rep, new-model (m .next) mode key)
       (record {
-        responses = ap (λ (n : ℕ). record { answer = opened (m .next) n; buffer = [] }) (count (newEntry (m .next) mode key) (good-new (m .next) mode key));
-        left = now-open h m s rep x xs free mode key;
+        responses = ap (λ (n : ℕ). record { answer = opened (m .next) n; buffer = [] }) (count (newEntry (m .next) mode key) (good-new (m .next) mode key short));
+        left = now-open h m s rep x xs free mode key short;
       })
 
   -- ---- the calls
 
-  open-same : (n : ℕ) (key : List ℕ) → Same (openHub n key h) (openMachine n key m)
+  open-same : (n : ℕ) (key : List ℕ) (tagLength : ℕ) → Same (openHub n key tagLength h) (openMachine n key tagLength m)
   unfolding openHub openMachine openChecks
-  open-same n key =
+  open-same n key tagLength =
       rw (← full-same h m rep, ← rep .issues)
-      (checked-both Same (checks (named n)) (refuse h []) (refuse m []) (hub.admit (named n) key h) (plain.admit (named n) key m) (refused [])
-      (one (named n) (all ticket 0 (h .records)) refl))
+      (checked-both Same (checks (named n tagLength)) (refuse h []) (refuse m []) (hub.admit (named n tagLength) key h) (plain.admit (named n tagLength) key m)
+      (refused []) (one (named n tagLength) refl (all ticket 0 (h .records)) refl))
     where
       checks : Named → List OneCheck
-      checks x = openChecks x key (h .issued) (hub.absent 0 h)
+      checks x = openChecks x key tagLength (h .issued) (hub.absent 0 h)
 
-      one : (x : Named) (l : List Record) → all ticket 0 (h .records) ≡ l → Pass (checks x) → Same (hub.admit x key h) (plain.admit x key m)
-      one NoMode l free pass = absurd (true≢false (pass .0))
-      one (Is mode) (x ∷ xs) free pass = admitted mode key x xs free
-      one (Is mode) [] free pass = absurd (true≢false (sym (is-absent 0 h free) ∙ pass .1 .1 .1 .0))
+      one : (x : Named) → named n tagLength ≡ x → (l : List Record) → all ticket 0 (h .records) ≡ l → Pass (checks x)
+          → Same (hub.admit x key h) (plain.admit x key m)
+      one NoMode is l free pass = absurd (true≢false (pass .0))
+      one (Is mode) is (x ∷ xs) free pass = admitted mode key (tagged n tagLength mode is (pass .1 .1 .0)) x xs free
+      one (Is mode) is [] free pass = absurd (true≢false (sym (is-absent 0 h free) ∙ pass .1 .1 .1 .1 .0))
 
   feed-same : (t : ℕ) (bytes : List ℕ) → Same (feedHub t bytes h) (feedMachine t bytes m)
   unfolding feedHub feedMachine feedChecks feedOwn afterFeed
@@ -162,13 +157,12 @@ module _ (h : Hub) (m : Machine) (s : Sound m) (rep : Represents h m) where
   check-same t tag =
       on-ticket t [] (λ x. checkOwn x tag)
       (λ r. step (hub.put t (finished r) h) (judged (tagMatches tag (finished r)) (finished r .runs)) [])
-      (λ e. step (plain.put t (afterDraw 0 e) m) (judged (same tag (outputOf (afterDraw 0 e) (length tag))) (runsOf (afterDraw 0 e))) [])
+      (λ e. step (plain.put t (afterDraw 0 e) m) (judged (same tag (outputOf (afterDraw 0 e) (row (e .mode) .mostDrawn))) (runsOf (afterDraw 0 e))) [])
       (λ e q o g pass.
       let tags : numberOf (e .mode) ≡ 2 = eqb-true _ _ (not-false _ (pass .0)) in
-      let short : length tag ≤ longestTag = ltb-false _ _ (neither (ltb (length tag) shortestTag) (ltb longestTag (length tag)) (pass .1 .0)) in
-      rw (verdict tag e g tags short)
+      rw (verdict tag e g tags)
       (kept t e q o g (finished (model e)) (afterDraw 0 e) (checked-model e g) refl refl
-      (good-drawn 0 e g (omega (arith, g .within))) (judged (same tag (outputOf (afterDraw 0 e) (length tag)))) []))
+      (good-drawn 0 e g (omega (arith, g .within))) (judged (same tag (outputOf (afterDraw 0 e) (row (e .mode) .mostDrawn)))) []))
 
   close-same : (t : ℕ) → Same (closeHub t h) (closeMachine t m)
   unfolding closeHub closeMachine ticketChecks afterClose runsOf
@@ -189,7 +183,7 @@ module _ (h : Hub) (m : Machine) (s : Sound m) (rep : Represents h m) where
 
   pub same-step : (c : Call) → Same (onHub c h) (machine c m)
   unfolding onHub machine
-  same-step (Open n key) = open-same n key
+  same-step (Open n key tagLength) = open-same n key tagLength
   same-step (Feed t bytes) = feed-same t bytes
   same-step (Draw t buffer place k) = draw-same t buffer place k
   same-step (Check t tag) = check-same t tag
@@ -218,8 +212,8 @@ left-after (c ∷ cs) h m s rep = left-after cs (onHub c h .after) (machine c m 
 pub agree : (calls : List Call) → events onHub emptyHub calls ≡ events machine emptyMachine calls
 agree calls = from calls emptyHub emptyMachine sound-empty represents-empty
 
--- and so does a sum after it
-pub agree-sum : (calls : List Call) → onHub Sum (final onHub emptyHub calls) .response ≡ machine Sum (final machine emptyMachine calls) .response
-agree-sum calls =
+-- and so does a call after it
+pub agree-next : (calls : List Call) (c : Call) → onHub c (final onHub emptyHub calls) .response ≡ machine c (final machine emptyMachine calls) .response
+agree-next calls c =
     let after = left-after calls emptyHub emptyMachine sound-empty represents-empty in
-    same-step (final onHub emptyHub calls) (final machine emptyMachine calls) (after .0) (after .1) Sum .responses
+    same-step (final onHub emptyHub calls) (final machine emptyMachine calls) (after .0) (after .1) c .responses

@@ -1,29 +1,31 @@
 -- What each call gives. A call on a ticket gives what it makes of the ticket's record, put back: one law for all of them, over the call's own checks and what
 -- it does.
 -- Assumes nothing.
-use mathlib.Core.Bool.{Bool, true, false}
+use mathlib.Core.Bool.{Bool, true, false, _&&_, _||_}
 use mathlib.Core.Path.{_≡_, refl, sym, ap, _∙_}
 use mathlib.Core.List.{List, [], _∷_, _++_}
-use Prim.Native.Nat.{ℕ, _+_, _≤_, _<_, _^_}
+use Prim.Native.Nat.{ℕ, _+_, _%_, _≤_, _<_, _^_}
+use native.Mathlib.Decide.{ℕ-discrete}
 use native.Mathlib.Omega.{arith}
-use borrow.Author.Tests.{le-leb, lt-leb}
-use lib.Dec.{eqb}
+use borrow.Author.Tests.{le-leb, lt-leb, ltb-false, eq-eqb}
+use lib.Dec.{eqb, ltb}
 use lib.ListN.{length}
 use lib.Seq.{set-getD}
 use Rattle.mode.specs.declared.Mode.{Mode}
 use Rattle.mode.specs.declared.Named.{Named}
 use Rattle.mode.specs.declared.Named.the-variants.{Is, NoMode}
 use Rattle.sponge.specs.declared.record.Record.{Record}
-use Rattle.mode.specs.Mode.{row, named}
+use Rattle.mode.specs.Mode.{row, numberOf, named}
+use Rattle.mode.proofs.Modes.{number-is, length-ignored}
 use Rattle.sponge.specs.Record.{sum64, fresh, absorbed, finished, nextBytes, squeezed, tagMatches}
 use Rattle.calls.specs.declared.Answer.{Answer}
 use Rattle.calls.specs.Answer.{refused, opened, counted, judged}
 use Rattle.checks.specs.Checks.{OneCheck, checked}
 use Rattle.checks.specs.Buffers.{written}
 use Rattle.checks.proofs.Checks.{checked-both}
-use Rattle.calls.specs.Checks.{mostIssued, Standing, openChecks, ticketChecks, feedOwn, feedChecks, drawOwn, drawChecks, checkOwn, checkChecks}
+use Rattle.calls.specs.Checks.{mostIssued, shortestTag, longestTag, wrongTag, Standing, openChecks, ticketChecks, feedOwn, feedChecks, drawOwn, drawChecks, checkOwn, checkChecks}
 use Rattle.calls.specs.Call.{Step, step, refuse}
-use Rattle.calls.proofs.Checks.{never-issued, is-closed, is-open}
+use Rattle.calls.proofs.Checks.{never-issued, is-closed, is-open, second-false}
 use Rattle.hub.specs.declared.Hub.{Hub}
 use Rattle.hub.specs.declared.Reply.{Reply}
 use Rattle.hub.specs.declared.places.Located.{Located}
@@ -145,38 +147,61 @@ module _ (t : ℕ) (h : Hub) (fits : h .closed < 2 ^ 64) where
 
 -- ---- open
 
-module _ (mode : ℕ) (key : List ℕ) (h : Hub) where
-  pub open-1 : named mode ≡ NoMode → openHub mode key h ≡ refuse h [] 1
+-- of a tag length that is not wrong the low byte is all
+low-byte : (tagLength : ℕ) → ltb tagLength shortestTag || ltb longestTag tagLength ≡ false → tagLength % 256 ≡ tagLength
+low-byte tagLength h = omega (arith, ltb-false longestTag tagLength (second-false (ltb tagLength shortestTag) (ltb longestTag tagLength) h))
+
+-- so a mode that is named with the low byte, and has no wrong tag length, is the one that is named
+pub named-whole : (n tagLength : ℕ) (m : Mode) → named n (tagLength % 256) ≡ Is m → wrongTag (Is m) tagLength ≡ false → named n tagLength ≡ Is m
+named-whole n tagLength m e right = go (ℕ-discrete n 2)
+  where
+    go : Dec (n ≡ 2) → named n tagLength ≡ Is m
+    go (yes two) =
+        let tags : numberOf m ≡ 2 = number-is n (tagLength % 256) m e ∙ two in
+        ap (named n) (sym (low-byte tagLength (rw (eq-eqb (numberOf m) 2 tags) at right))) ∙ e
+    go (no other) = length-ignored n tagLength (tagLength % 256) other ∙ e
+
+-- modes of one number have the same wrong tag lengths
+pub wrong-alike : (a b : Mode) (tagLength : ℕ) → numberOf a ≡ numberOf b → wrongTag (Is a) tagLength ≡ wrongTag (Is b) tagLength
+wrong-alike a b tagLength h = ap (λ (n : ℕ). eqb n 2 && (ltb tagLength shortestTag || ltb longestTag tagLength)) h
+
+module _ (mode : ℕ) (key : List ℕ) (tagLength : ℕ) (h : Hub) where
+  pub open-1 : named mode tagLength ≡ NoMode → openHub mode key tagLength h ≡ refuse h [] 1
   unfolding openHub openChecks
   open-1 e = rw e
 
   -- a mode is named
-  module _ (m : Mode) (e : named mode ≡ Is m) where
+  module _ (m : Mode) (e : named mode tagLength ≡ Is m) where
     abbrev openAs : Named → Step Hub
-    openAs n = checked (refuse h []) (openChecks n key (h .issued) (absent 0 h)) (admit n key h)
+    openAs n = checked (refuse h []) (openChecks n key tagLength (h .issued) (absent 0 h)) (admit n key h)
 
-    open-named : openHub mode key h ≡ openAs (Is m)
+    open-named : openHub mode key tagLength h ≡ openAs (Is m)
     unfolding openHub
     open-named = ap openAs e
 
-    pub open-2 : eqb (length key) (row m .keyLength) ≡ false → openHub mode key h ≡ refuse h [] 2
+    pub open-2 : eqb (length key) (row m .keyLength) ≡ false → openHub mode key tagLength h ≡ refuse h [] 2
     unfolding openChecks
     open-2 e2 = open-named ∙ rw e2
 
     module _ (e2 : eqb (length key) (row m .keyLength) ≡ true) where
-      pub open-14 : mostIssued ≤ h .issued → openHub mode key h ≡ refuse h [] 14
+      pub open-21 : wrongTag (Is m) tagLength ≡ true → openHub mode key tagLength h ≡ refuse h [] 21
       unfolding openChecks
-      open-14 l = open-named ∙ rw (e2, le-leb mostIssued (h .issued) l)
+      open-21 e21 = open-named ∙ rw (e2, e21)
 
-      module _ (few : h .issued < mostIssued) where
-        pub open-13 : absent 0 h ≡ true → openHub mode key h ≡ refuse h [] 13
+      module _ (e21 : wrongTag (Is m) tagLength ≡ false) where
+        pub open-14 : mostIssued ≤ h .issued → openHub mode key tagLength h ≡ refuse h [] 14
         unfolding openChecks
-        open-13 full = open-named ∙ rw (e2, lt-leb mostIssued (h .issued) few, full)
+        open-14 l = open-named ∙ rw (e2, e21, le-leb mostIssued (h .issued) l)
 
-        -- the reply, of a hub and an answer that are known by equations
-        pub open-done : absent 0 h ≡ false → (p : ℕ) → p ≡ placeOf 0 h → (r : Record) → r ≡ fresh (h .issued + 1) m key
-            → (after : Hub) (answer : Answer) → after ≡ putAt p r h → answer ≡ opened (h .issued + 1) (r .runs)
-            → _≡_ {A = Reply} (record { hub = record { records = after .records; issued = h .issued + 1; closed = after .closed }; answer = answer })
-            (replyOf (openHub mode key h))
-        unfolding openChecks admit put
-        open-done room p ep r er after answer eh ea = rw (open-named, eh, ea) (rw (e2, lt-leb mostIssued (h .issued) few, room, er, ep))
+        module _ (few : h .issued < mostIssued) where
+          pub open-13 : absent 0 h ≡ true → openHub mode key tagLength h ≡ refuse h [] 13
+          unfolding openChecks
+          open-13 full = open-named ∙ rw (e2, e21, lt-leb mostIssued (h .issued) few, full)
+
+          -- the reply, of a hub and an answer that are known by equations
+          pub open-done : absent 0 h ≡ false → (p : ℕ) → p ≡ placeOf 0 h → (r : Record) → r ≡ fresh (h .issued + 1) m key
+              → (after : Hub) (answer : Answer) → after ≡ putAt p r h → answer ≡ opened (h .issued + 1) (r .runs)
+              → _≡_ {A = Reply} (record { hub = record { records = after .records; issued = h .issued + 1; closed = after .closed }; answer = answer })
+              (replyOf (openHub mode key tagLength h))
+          unfolding openChecks admit put
+          open-done room p ep r er after answer eh ea = rw (open-named, eh, ea) (rw (e2, e21, lt-leb mostIssued (h .issued) few, room, er, ep))

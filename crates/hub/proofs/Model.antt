@@ -1,7 +1,7 @@
 -- The record of an entry, as a function of the entry; and that what a call makes of the record is the record of what the plain machine makes of the entry.
 -- Assumes nothing.
 use mathlib.Core.Bool.{Bool, true, false, cond}
-use mathlib.Core.Path.{_≡_, refl, sym, ap, _∙_}
+use mathlib.Core.Path.{_≡_, refl, sym, ap, _∙_, subst}
 use mathlib.Core.List.{List, []}
 use Prim.Native.Nat.{ℕ, _+_, _^_, _≤_, _<_}
 use native.Mathlib.Omega.{arith}
@@ -9,15 +9,14 @@ use native.Mathlib.Nat.{zero-add, add-zero}
 use lib.ListN.{length, drop}
 use Rattle.checks.specs.Equality.{same}
 use Rattle.mode.specs.declared.Mode.{Mode}
-use Rattle.mode.specs.declared.Mode.the-variants.{Mac}
 use Rattle.sponge.specs.declared.record.Record.{Record}
 use Rattle.mode.specs.Mode.{row, numberOf}
-use Rattle.mode.proofs.Modes.{limits, same-number}
+use Rattle.mode.proofs.Modes.{limits, is-mac}
 use Rattle.sponge.specs.Record.{sum64, withCore, withDrawn, afterRun, afterDrawing, fresh, absorbed, finished, nextBytes, squeezed, tagMatches}
 use Rattle.sponge.proofs.Core.{sum64-fits, sum64-zero, withCoreOf}
 use Rattle.sponge.proofs.Calls.{absorbed-is, absorbed-none, absorbed-append, finished-is, squeezed-is, squeezed-add, finished-again}
 use Rattle.sponge.proofs.Streaming.{calls-feeding-runs, calls-bytes, calls-verdict, calls-ended-runs}
-use Rattle.calls.specs.Checks.{longestTag}
+use Rattle.calls.proofs.Checks.{Tagged}
 use Rattle.calls.specs.Machine.{Entry, formula, runsOf, outputOf, newEntry, afterFeed, afterDraw}
 use Rattle.calls.proofs.Output.{take-output}
 use Rattle.calls.proofs.Entries.{Good, mostRuns}
@@ -79,7 +78,7 @@ module _ (e : Entry) (g : Good e) where
 
 -- no count of bytes drawn comes near 64 bits
 drawn-small : (e : Entry) → Good e → e .drawn ≤ 1048576
-drawn-small e g = omega (arith, g .within, limits (e .mode) .drawn)
+drawn-small e g = omega (arith, g .within, limits (e .mode) .drawn (g .short))
 
 pub model-fields : (e : Entry) → Good e → model e ≡ withCoreOf (model e) (outline e (e .drawn) (e .feeding))
 unfolding model
@@ -148,16 +147,16 @@ module _ (e : Entry) (g : Good e) where
 
 -- ---- a tag
 
--- in the mode of tags no byte is drawn beyond the first block
-tag-mode : (mode : Mode) → numberOf mode ≡ 2 → (row mode .drawRate ≡ 16) × (row mode .mostDrawn ≡ 16)
-tag-mode mode h = rw (same-number mode Mac h) (refl, refl)
+-- a tag stands in a block, and so does all that is drawn of a MAC
+tag-inside : (mode : Mode) → numberOf mode ≡ 2 → Tagged mode → row mode .mostDrawn ≤ row mode .drawRate
+tag-inside mode h short = subst (λ (m : Mode). row mode .mostDrawn ≤ row m .drawRate) (sym (is-mac mode h)) (short h)
 
 -- the verdict of a check
-pub verdict : (tag : List ℕ) (e : Entry) → Good e → numberOf (e .mode) ≡ 2 → length tag ≤ longestTag
-    → tagMatches tag (finished (model e)) ≡ same tag (outputOf (afterDraw 0 e) (length tag))
+pub verdict : (tag : List ℕ) (e : Entry) → Good e → numberOf (e .mode) ≡ 2
+    → tagMatches tag (finished (model e)) ≡ same tag (outputOf (afterDraw 0 e) (row (e .mode) .mostDrawn))
 unfolding fedRecord drawnRecord outputOf afterDraw
-verdict tag e g h l =
-    let mac = tag-mode (e .mode) h in
+verdict tag e g h =
+    let inside = tag-inside (e .mode) h (g .short) in
     ap (tagMatches tag) (ended-model e g)
-    ∙ calls-verdict (e .number) (e .mode) (e .key) (e .fed) tag (e .drawn) (omega (arith, g .within, mac .0, mac .1))
-    ∙ ap (same tag) (take-output (e .mode) (e .key) (e .fed) (length tag) (row (e .mode) .drawRate) (omega (arith, mac .0)))
+    ∙ calls-verdict (e .number) (e .mode) (e .key) (e .fed) tag (e .drawn) (omega (arith, g .within, inside))
+    ∙ ap (same tag) (take-output (e .mode) (e .key) (e .fed) (row (e .mode) .mostDrawn) (row (e .mode) .drawRate) inside)

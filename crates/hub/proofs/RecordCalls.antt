@@ -98,12 +98,12 @@ module _ (n : ℕ) (r : Record) where
       unfolding checkRecord checkOwn
       check-18 e18 = rw (e, e18)
 
-      pub check-4 : not (eqb (numberOf (r .mode)) 2) ≡ false → ltb (length tag) shortestTag || ltb longestTag (length tag) ≡ true
+      pub check-4 : not (eqb (numberOf (r .mode)) 2) ≡ false → not (eqb (length tag) (row (r .mode) .mostDrawn)) ≡ true
           → checkRecord n tag r ≡ refuse r [] 4
       unfolding checkRecord checkOwn
       check-4 e18 e4 = rw (e, e18, e4)
 
-      pub check-done : not (eqb (numberOf (r .mode)) 2) ≡ false → ltb (length tag) shortestTag || ltb longestTag (length tag) ≡ false
+      pub check-done : not (eqb (numberOf (r .mode)) 2) ≡ false → not (eqb (length tag) (row (r .mode) .mostDrawn)) ≡ false
           → checkRecord n tag r ≡ step (finished r) (judged (tagMatches tag (finished r)) (finished r .runs)) []
       unfolding checkRecord checkOwn
       check-done e18 e4 = rw (e, e18, e4)

@@ -21,6 +21,7 @@ use Rattle.calls.specs.Machine.{Entry, Machine, emptyMachine, runsOf, newEntry,
 use Rattle.calls.specs.Machine as plain
 use Rattle.calls.proofs.Keyed.{most-total, total-append, all, others, named-is, all-here, all-gone, all-other, all-new, total-set}
 use Rattle.calls.proofs.Entries.{number, Good, mostRuns, Sound}
+use Rattle.calls.proofs.Checks.{Tagged}
 use Rattle.calls.proofs.Sound.{bounded, good-new, put-here, put-other, withNew, new-here, new-other}
 use Rattle.hub.specs.declared.Hub.{Hub}
 use Rattle.hub.specs.Hub as hub
@@ -187,7 +188,7 @@ next-is h m s rep = s .numbered ∙ ap (λ (n : ℕ). n + 1) (sym (rep .issues))
 
 -- its record comes to the first free place
 module _ (h : Hub) (m : Machine) (s : Sound m) (rep : Represents h m) (x : Record) (xs : List Record) (free : all ticket 0 (h .records) ≡ x ∷ xs) (mode : Mode)
-    (key : List ℕ) where
+    (key : List ℕ) (short : Tagged mode) where
   abbrev new : Entry
   new = newEntry (m .next) mode key
 
@@ -211,7 +212,7 @@ module _ (h : Hub) (m : Machine) (s : Sound m) (rep : Represents h m) (x : Recor
   }
     where
       good : Good new
-      good = good-new (m .next) mode key
+      good = good-new (m .next) mode key short
 
       mine : model new .ticket ≡ m .next
       mine = model-ticket new good

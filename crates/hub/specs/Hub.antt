@@ -66,8 +66,10 @@ admit (Is mode) key h =
     step (record { records = put 0 r h .records; issued = t; closed = h .closed }) (opened t (r .runs)) []
 admit NoMode key h = refuse h [] 1
 
-unfoldable pub openHub : ℕ → List ℕ → Hub → Step Hub
-openHub mode key h = checked (refuse h []) (openChecks (named mode) key (h .issued) (absent 0 h)) (admit (named mode) key h)
+unfoldable pub openHub : ℕ → List ℕ → ℕ → Hub → Step Hub
+openHub mode key tagLength h =
+    let meant : Named = named mode tagLength in
+    checked (refuse h []) (openChecks meant key tagLength (h .issued) (absent 0 h)) (admit meant key h)
 
 unfoldable pub feedHub : ℕ → List ℕ → Hub → Step Hub
 feedHub t bytes h =
@@ -98,7 +100,7 @@ unfoldable pub sumHub : Hub → Step Hub
 sumHub h = step h (summed (sum64 (h .closed) (total (λ (r : Record). r .runs) (h .records)))) []
 
 unfoldable pub onHub : Call → Hub → Step Hub
-onHub (Open mode key) h = openHub mode key h
+onHub (Open mode key tagLength) h = openHub mode key tagLength h
 onHub (Feed t bytes) h = feedHub t bytes h
 onHub (Draw t buffer place count) h = drawHub t buffer place count h
 onHub (Check t tag) h = checkHub t tag h

@@ -20,6 +20,8 @@ use records::feed_record;
 use sponge::Record;
 ghost use mathlib.Core.Path.{_≡_};
 ghost use mathlib.Core.List.{[]};
+ghost use Rattle.mode.specs.declared.Named.the-variants.{Is};
+ghost use Rattle.calls.specs.Checks.{wrongTag};
 ghost use Rattle.calls.specs.Call as call;
 ghost use Rattle.hub.specs.Hub as spec;
 
@@ -45,11 +47,11 @@ impl Hub {
 
     pub const MOST_FED: u64 = 16_777_216;
 
-    pub const SHORTEST_TAG: usize = 8;
+    pub const SHORTEST_TAG: u32 = 8;
 
-    pub const LONGEST_TAG: usize = 16;
+    pub const LONGEST_TAG: u32 = 16;
 
-    // The number of the mode whose tags are checked.
+    // The number of the mode that has tags, of a length that its open names, and whose tags are checked.
     pub const TAG_MODE: u32 = 2;
 
     // No ticket issued, sum 0.
@@ -76,15 +78,30 @@ impl Hub {
     }
 }
 
-// Checks 1, 2, 14, 13. The new ticket's record goes to the first free place.
-pub fn open(hub: Hub, mode: u32, key: &[u8]) -> Reply
-    ensures { λ r. ⌜ r ≡ spec.replyOf (spec.openHub mode (now (key .entry)) hub) ⌝ }
+// Whether a tag length is wrong for a mode. Only one mode has tags.
+fn wrong_tag(mode: Mode, length: u32) -> bool
+    ensures { λ r. ⌜ r ≡ wrongTag (Is mode) length ⌝ }
 {
-    let Named::Is(named) = Mode::of_number(mode) else {
+    if mode.number() != Hub::TAG_MODE {
+        return false;
+    }
+    length < Hub::SHORTEST_TAG || Hub::LONGEST_TAG < length
+}
+
+// Checks 1, 2, 21, 14, 13. The new ticket's record goes to the first free place.
+pub fn open(hub: Hub, mode: u32, key: &[u8], tag_length: u32) -> Reply
+    ensures { λ r. ⌜ r ≡ spec.replyOf (spec.openHub mode (now (key .entry)) «tag_length» hub) ⌝ }
+{
+    // A mode holds a length of one byte. One that needs more is wrong where it counts.
+    let length = (tag_length % 256) as u8;
+    let Named::Is(named) = Mode::of_number(mode, length) else {
         return hub.refuse(1);
     };
     if key.len() != named.key_length() {
         return hub.refuse(2);
+    }
+    if wrong_tag(named, tag_length) {
+        return hub.refuse(21);
     }
     if Hub::MOST_ISSUED <= hub.issued {
         return hub.refuse(14);

@@ -4,11 +4,8 @@ use super::Hub;
 use calls::Answer;
 use sponge::Record;
 ghost use mathlib.Core.Path.{_≡_};
-ghost use mathlib.Core.Bool.{_||_};
 ghost use mathlib.Core.List.{[]};
-ghost use lib.Dec.{ltb};
 ghost use Rattle.calls.specs.Call as call;
-ghost use Rattle.calls.specs.Checks.{shortestTag, longestTag};
 ghost use Rattle.hub.specs.Records as spec;
 
 // A record after a call, and the call's answer.
@@ -103,14 +100,7 @@ pub fn draw_record(
     Worked::counted(ended.squeeze(&mut buffer[place..end]))
 }
 
-// Whether no tag has this length.
-fn wrong_tag_length(length: usize) -> bool
-    ensures { λ r. ⌜ r ≡ ltb length shortestTag || ltb longestTag length ⌝ }
-{
-    length < Hub::SHORTEST_TAG || Hub::LONGEST_TAG < length
-}
-
-// Check: 18, 4.
+// Check: 18, 4. A tag has the length that the ticket's open named.
 pub fn check_record(refusal: u32, before: Record, tag: &[u8]) -> Worked
     ensures { λ r. ⌜ r ≡ spec.workedOf (spec.checkRecord refusal (now (tag .entry)) before) ⌝ }
 {
@@ -121,7 +111,7 @@ pub fn check_record(refusal: u32, before: Record, tag: &[u8]) -> Worked
     if mode.number() != Hub::TAG_MODE {
         return Worked::refused(before, 18);
     }
-    if wrong_tag_length(tag.len()) {
+    if mode.most_drawn() != tag.len() {
         return Worked::refused(before, 4);
     }
     let after = before.finish();

@@ -1,10 +1,12 @@
 -- A line's call is the call of its verb, with the line's bytes.
 -- Assumes nothing.
 use mathlib.Core.Path.{_≡_, refl, sym, ap, _∙_}
-use mathlib.Core.List.{List, _++_}
-use Prim.Native.Nat.{ℕ, _≤_}
+use mathlib.Core.Logic.{_≢_}
+use mathlib.Core.List.{List, [], _∷_, _++_}
+use Prim.Native.Nat.{ℕ, _-_, _≤_}
 use native.Mathlib.Omega.{arith}
-use lib.ListN.{length, take}
+use borrow.Author.Tests.{eq-eqb, ne-eqb}
+use lib.ListN.{length, take, getD}
 use lib.Seq.{take-length, length-take-le, take-take, take-at}
 use Rattle.calls.specs.declared.Answer.{Answer}
 use Rattle.calls.specs.Call.{Call, Step}
@@ -18,10 +20,34 @@ use Rattle.script.specs.Line.{Field, bytes as bytesField, Line}
 use Rattle.script.specs.Parsed.{fieldIn, lineWith}
 use Rattle.interpreter.specs.declared.Session.{Session}
 use Rattle.interpreter.specs.declared.line.Stepped.{Stepped}
-use Rattle.interpreter.specs.Script.{drawOf, callFor, callOf, verbOf, bytesFor, answered}
+use Rattle.interpreter.specs.Script.{drawOf, keyOf, tagLengthOf, openOf, callFor, callOf, verbOf, bytesFor, answered}
 use Rattle.interpreter.specs.Promises.{bytesAfter}
 use Rattle.interpreter.specs.Session.{goOn, called}
 use Rattle.interpreter.specs.Promises.{Stepping}
+
+-- ---- an open
+
+module _ (mode : ℕ) (bs : List ℕ) (h : Hub) (reply : Reply) where
+  -- in no other mode than 2 the bytes are the key
+  pub opened-plain : mode ≢ 2 → reply ≡ replyOf (openHub mode bs 0 h) → reply ≡ replyOf (onHub (openOf mode bs) h)
+  unfolding onHub
+  opened-plain other e = rw (ne-eqb mode 2 other) e
+
+  -- in mode 2, without a byte
+  pub opened-bare : mode ≡ 2 → length bs ≡ 0 → reply ≡ replyOf (openHub mode bs 0 h) → reply ≡ replyOf (onHub (openOf mode bs) h)
+  unfolding onHub
+  opened-bare two none e = go bs none e
+    where
+      go : (l : List ℕ) → length l ≡ 0 → reply ≡ replyOf (openHub mode l 0 h) → reply ≡ replyOf (openHub mode (keyOf mode l) (tagLengthOf mode l) h)
+      go [] none e = rw (eq-eqb mode 2 two) e
+      go (b ∷ l) none e = absurd (omega (arith, none))
+
+  -- and with bytes, of which the last is the tag length
+  pub opened-tagged : mode ≡ 2 → reply ≡ replyOf (openHub mode (take (length bs - 1) bs) (getD bs (length bs - 1) 0) h) → reply ≡ replyOf (onHub (openOf mode bs) h)
+  unfolding onHub
+  opened-tagged two e = rw (eq-eqb mode 2 two) e
+
+-- ---- any call
 
 module _ (before : Hub) (verb : Verb) (number : ℕ) (bytes : List ℕ) where
   abbrev step : Step Hub
@@ -32,8 +58,8 @@ module _ (before : Hub) (verb : Verb) (number : ℕ) (bytes : List ℕ) where
   Called reply after = (reply ≡ replyOf step) × (after ≡ bytesAfter verb bytes (step .response .buffer))
 
   module _ (reply : Reply) where
-    pub open-called : verb ≡ Open → reply ≡ replyOf (openHub number bytes before) → Called reply bytes
-    unfolding callOf onHub
+    pub open-called : verb ≡ Open → reply ≡ replyOf (onHub (openOf number bytes) before) → Called reply bytes
+    unfolding callOf
     open-called v e = rw v (rw (take-length bytes) e, refl)
 
     pub feed-called : verb ≡ Feed → reply ≡ replyOf (feedHub number bytes before) → Called reply bytes

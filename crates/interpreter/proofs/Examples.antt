@@ -85,10 +85,11 @@ abbrev Means : String → Call → Type 0
 Means line c = meaning 2 (text line) ≡ callLine c
 
 pub meant-calls :
-    Means "open 3 0a" (openCall 3 (10 ∷ [])) × Means "feed 4 -" (feedCall 4 []) × Means "draw 5 0003" (drawCall 5 (0 ∷ 0 ∷ 0 ∷ []) 0 3)
+    Means "open 3 0a" (openCall 3 (10 ∷ []) 0) × Means "open 2 0a0b08" (openCall 2 (10 ∷ 11 ∷ []) 8) × Means "open 2 10" (openCall 2 [] 16)
+    × Means "open 2 -" (openCall 2 [] 0) × Means "feed 4 -" (feedCall 4 []) × Means "draw 5 0003" (drawCall 5 (0 ∷ 0 ∷ 0 ∷ []) 0 3)
     × Means "check 6 0bff" (checkCall 6 (11 ∷ 255 ∷ [])) × Means "close 7 -" (closeCall 7) × Means "sum 0 -" sumCall
 unfolding meaning callOf parse fields fieldOf countOf isCount countValue noBytesOf bytesOf isHex isDash verbOf same before after isDigit allDigits plainStart valueFrom isNumber numberOf nibble hexPairs decoded
-meant-calls = (refl, refl, refl, refl, refl, refl)
+meant-calls = (refl, refl, refl, refl, refl, refl, refl, refl, refl)
 
 -- the last allowed line, and one after it
 pub last-lines : (meaning 1000000 (text "sum 0 -") ≡ callLine sumCall) × (meaning 1000001 (text "sum 0 -") ≡ malformedLine)
@@ -133,5 +134,8 @@ pub examples :
     -- refused calls: a draw prints no bytes, and an open no ticket
     × Prints "call number bytes\ndraw 1 0002\nopen 0 -\nopen 1 00\nopen 3 -\ncheck 1 0011223344556677\nclose 2 -\ndraw 1 0021\n"
     "answer number bytes\nno 11 -\nno 1 -\nno 2 -\nok 1 -\nno 18 -\nno 11 -\nno 17 -\n"
+    -- in mode 2 a tag length after the key, and in mode 1 none; what is drawn and checked has that length
+    × Prints "call number bytes\nopen 2 -\nopen 2 10\nopen 2 00000000000000000000000000000000\nopen 2 0000000000000000000000000000000007\nopen 2 0000000000000000000000000000000011\nopen 2 0000000000000000000000000000000008\nopen 2 0000000000000000000000000000000010\nopen 1 00000000000000000000000000000000\nopen 1 0000000000000000000000000000000008\ndraw 1 0009\ncheck 1 00000000000000000000000000000000\ncheck 2 0000000000000000\ndraw 2 0011\n"
+    "answer number bytes\nno 2 -\nno 2 -\nno 2 -\nno 21 -\nno 21 -\nok 1 -\nok 2 -\nok 3 -\nno 2 -\nno 17 -\nno 4 -\nno 4 -\nno 17 -\n"
 unfolding output printedOf scriptOf scriptFrom meaning answers answered wordFor numberFor bytesFor callOf lines answerLine parse fields fieldOf countOf isCount countValue noBytesOf bytesOf isHex isDash verbOf same before after isDigit allDigits plainStart valueFrom isNumber numberOf spelled decimal nibble digitOf hexPairs decoded hexOf bytesText events machine emptyMachine openMachine openChecks named admit newEntry runsOf formula runsFeeding runsEnded ceiling start openCount total feedMachine drawMachine checkMachine closeMachine ticketChecks feedChecks feedOwn drawChecks drawOwn checkChecks checkOwn standingOf entryOf placeOf find afterFeed afterDraw afterClose put sumMachine outputOf written oneShot spongeOutput squeezeBytes
-examples = (refl, refl, refl, refl, refl, refl, refl, refl, refl, refl, refl, refl, refl, refl)
+examples = (refl, refl, refl, refl, refl, refl, refl, refl, refl, refl, refl, refl, refl, refl, refl)

@@ -3,9 +3,9 @@
 -- Assumes nothing.
 use mathlib.Core.Bool.{Bool, true, false, cond}
 use mathlib.Core.List.{List, [], _∷_, _++_}
-use Prim.Native.Nat.{ℕ, _+_}
+use Prim.Native.Nat.{ℕ, _+_, _-_}
 use lib.Dec.{eqb, leb}
-use lib.ListN.{replicate}
+use lib.ListN.{length, take, getD, replicate}
 use Rattle.checks.specs.Equality.{same}
 use Rattle.calls.specs.declared.Answer.{Answer}
 use Rattle.calls.specs.Answer.{accepted}
@@ -50,8 +50,18 @@ mostLines = 1000000
 abbrev pub drawOf : ℕ → ℕ → Call
 drawOf t count = drawCall t (replicate count 0) 0 count
 
+-- the bytes of an open are its key. In mode 2 one more byte follows the key, the tag length (request K2); of no bytes there is no key either, which is refused
+abbrev pub keyOf : ℕ → List ℕ → List ℕ
+keyOf mode bs = cond (eqb mode 2) (take (length bs - 1) bs) bs
+
+abbrev pub tagLengthOf : ℕ → List ℕ → ℕ
+tagLengthOf mode bs = cond (eqb mode 2) (getD bs (length bs - 1) 0) 0
+
+abbrev pub openOf : ℕ → List ℕ → Call
+openOf mode bs = openCall mode (keyOf mode bs) (tagLengthOf mode bs)
+
 abbrev pub callFor : Verb → ℕ → Field → Call
-callFor Open n f = openCall n (bytesIn f)
+callFor Open n f = openOf n (bytesIn f)
 callFor Feed n f = feedCall n (bytesIn f)
 callFor Draw n f = drawOf n (sizeOf f)
 callFor Check n f = checkCall n (bytesIn f)
@@ -64,7 +74,7 @@ callOf l = callFor (l .verb) (l .number) (l .field)
 -- ---- what is printed of a call
 
 abbrev pub verbOf : Call → Verb
-verbOf (openCall mode key) = Open
+verbOf (openCall mode key tagLength) = Open
 verbOf (feedCall t bytes) = Feed
 verbOf (drawCall t buffer place count) = Draw
 verbOf (checkCall t tag) = Check

@@ -32,13 +32,28 @@ fn draw(before: Hub, ticket: u32, buffer: &mut [u8]) -> Reply
     hub::draw(before, ticket, buffer, 0, count)
 }
 
+// Opens. In mode 2 the last byte is the tag length, and those before it are the key.
+fn open(before: Hub, mode: u32, bytes: &[u8]) -> Reply
+    ensures { λ r. ⌜ r ≡ replyOf (onHub (spec.openOf mode (now (bytes .entry))) before) ⌝ }
+{
+    if mode != Hub::TAG_MODE {
+        return hub::open(before, mode, bytes, 0);
+    }
+    if bytes.len() == 0 {
+        return hub::open(before, mode, bytes, 0);
+    }
+    let last = bytes.len() - 1;
+    let length = bytes[last] as u32;
+    hub::open(before, mode, &bytes[..last], length)
+}
+
 // Makes the call. The bytes are the line's; for a draw they are as many as it draws, and then those drawn.
 pub(crate) fn call(before: Hub, verb: Verb, number: u32, bytes: &mut [u8]) -> Reply
     ensures reply { λ r. ⌜ r ≡ replyOf (onHub (spec.callOf (lineWith verb number (length (now (bytes .entry))) (now (bytes .entry)))) before) ⌝ }
     ensures bytes { λ r. ⌜ now (bytes .exit) ≡ bytesAfter verb (now (bytes .entry)) (onHub (spec.callOf (lineWith verb number (length (now (bytes .entry))) (now (bytes .entry)))) before .response .buffer) ⌝ }
 {
     match verb {
-        Verb::Open => hub::open(before, number, bytes),
+        Verb::Open => open(before, number, bytes),
         Verb::Feed => hub::feed(before, number, bytes),
         Verb::Draw => draw(before, number, bytes),
         Verb::Check => hub::check(before, number, bytes),

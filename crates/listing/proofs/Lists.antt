@@ -109,9 +109,11 @@ unfolding admit
 admit-leaves (Is mode) key h = refl
 admit-leaves NoMode key h = refl
 
-pub open-leaves : (mode : ℕ) (key : List ℕ) (h : Hub) → LeavesNone (openHub mode key h)
+pub open-leaves : (mode : ℕ) (key : List ℕ) (tagLength : ℕ) (h : Hub) → LeavesNone (openHub mode key tagLength h)
 unfolding openHub
-open-leaves mode key h = checked-leaves (openChecks (named mode) key (h .issued) (absent 0 h)) h (admit (named mode) key h) (admit-leaves (named mode) key h)
+open-leaves mode key tagLength h =
+    let meant : Named = named mode tagLength in
+    checked-leaves (openChecks meant key tagLength (h .issued) (absent 0 h)) h (admit meant key h) (admit-leaves meant key h)
 
 pub feed-leaves : (t : ℕ) (bytes : List ℕ) (h : Hub) → LeavesNone (feedHub t bytes h)
 unfolding feedHub

@@ -32,7 +32,7 @@ threeFields name n bs = numbered name n ++ bytesField bs
 
 -- what was called, with what. A close has no bytes and a sum neither number nor bytes: there stand 0 and `-`
 unfoldable pub callText : Call → List ℕ
-callText (Open mode key) = threeFields (text "open") mode key
+callText (Open mode key tagLength) = threeFields (text "open") mode key ++ numberField tagLength
 callText (Feed ticket bytes) = threeFields (text "feed") ticket bytes
 callText (Draw ticket buffer place count) = threeFields (text "draw") ticket buffer ++ numberField place ++ numberField count
 callText (Check ticket tag) = threeFields (text "check") ticket tag

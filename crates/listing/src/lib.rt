@@ -93,6 +93,14 @@ pub fn put_line(
     put_response(text, after_call, answer, b"")
 }
 
+// An open, with its tag length.
+fn put_open(text: &mut [u8], at: usize, mode: u32, key: &[u8], length: u32) -> usize
+    ensures { λ r. ⌜ Wrote (now (text .entry)) at (spec.callText (call.Open mode (now (key .entry)) length)) (now (text .exit)) r ⌝ }
+{
+    let after_call = put_call(text, at, b"open", mode, key);
+    put_number(text, after_call, length as u64)
+}
+
 // A draw, with the buffer as it is lent.
 fn put_draw(
     text: &mut [u8],
@@ -111,11 +119,12 @@ fn put_draw(
 
 // ---- the calls: each is made on a hub by value, and its line put into the buffer
 
-pub fn open(before: Hub, mode: u32, key: &[u8], text: &mut [u8], at: usize) -> Listed
-    ensures { λ r. ⌜ spec.Lists (call.Open mode (now (key .entry)) ∷ []) before (now (text .entry)) at (now (text .exit)) r ⌝ }
+pub fn open(before: Hub, mode: u32, key: &[u8], length: u32, text: &mut [u8], at: usize) -> Listed
+    ensures { λ r. ⌜ spec.Lists (call.Open mode (now (key .entry)) length ∷ []) before (now (text .entry)) at (now (text .exit)) r ⌝ }
 {
-    let reply = hub::open(before, mode, key);
-    let next = put_line(text, at, b"open", mode, key, reply.answer);
+    let reply = hub::open(before, mode, key, length);
+    let after_call = put_open(text, at, mode, key, length);
+    let next = put_response(text, after_call, reply.answer, b"");
     let after = reply.hub;
     Listed {
         hub: after,

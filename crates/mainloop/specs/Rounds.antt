@@ -34,7 +34,7 @@ lentOut = replicate 16 170
 
 -- an empty hub gets eight PRF tickets under a key and eight of the hash, one of which gives bytes and takes no more
 unfoldable pub opening : List ℕ → List Call
-opening key = replicate 8 (Open 1 key) ++ replicate 8 (Open 3 []) ++ (Draw 14 lentOut 0 3 ∷ [])
+opening key = replicate 8 (Open 1 key 0) ++ replicate 8 (Open 3 [] 0) ++ (Draw 14 lentOut 0 3 ∷ [])
 
 -- draws of 16 bytes from n tickets, from number t on
 unfoldable pub drawsFrom : ℕ → ℕ → List Call
@@ -43,7 +43,7 @@ drawsFrom t (suc n) = Draw t lentOut 0 16 ∷ drawsFrom (suc t) n
 
 -- eight tickets come into the places of closed ones; then draws from every ticket, from closed ones too, and from 25, which was never issued; and the sum
 unfoldable pub ending : List ℕ → List Call
-ending key = replicate 8 (Open 1 key) ++ drawsFrom 1 25 ++ (Sum ∷ [])
+ending key = replicate 8 (Open 1 key 0) ++ drawsFrom 1 25 ++ (Sum ∷ [])
 
 -- a message of a few bytes is fed by all rounds, and then another by as many
 unfoldable pub allCalls : List ℕ → List ℕ → List ℕ → List Call

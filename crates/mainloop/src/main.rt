@@ -156,7 +156,7 @@ fn rounds(before: Hub, in_place: bool, bytes: &[u8], text: &mut [u8], at: usize)
 // Eight tickets of one mode.
 fn open_eight(before: Hub, mode: u32, key: &[u8], text: &mut [u8], at: usize) -> Listed
     requires { ⌜ at ≤ length (now text) ⌝ }
-    ensures { λ r. ⌜ Lists (replicate 8 (Open mode (now (key .entry)))) before (now (text .entry)) at (now (text .exit)) r ⌝ }
+    ensures { λ r. ⌜ Lists (replicate 8 (Open mode (now (key .entry)) 0)) before (now (text .entry)) at (now (text .exit)) r ⌝ }
 {
     let mut current = Listed {
         hub: before,
@@ -165,7 +165,7 @@ fn open_eight(before: Hub, mode: u32, key: &[u8], text: &mut [u8], at: usize) ->
     let mut i = 0usize;
     while i < 8 {
         let before_open = current.hub;
-        current = listing::open(before_open, mode, key, text, current.next);
+        current = listing::open(before_open, mode, key, 0, text, current.next);
         i += 1;
     }
     current
@@ -274,7 +274,7 @@ const MESSAGE: [u8; 20] = [
     127,
 ];
 
-// The buffer is longer than the text, which has 90,042 bytes.
+// The buffer is longer than the text, which has 90,138 bytes.
 fn main() {
     let key = KEY;
     let few = FEW;

@@ -2,7 +2,7 @@
 -- ASCON-HASHA and ASCON-XOFA. In the table of start words of "Additional Modes for Ascon" (source document 004) a digit of XOFA's is missing.
 -- Assumes nothing.
 use mathlib.Core.Bool.{Bool, true, false, cond}
-use Prim.Native.Nat.{ℕ}
+use Prim.Native.Nat.{ℕ, _+_, _*_}
 use lib.Dec.{eqb, leb}
 use Rattle.mode.specs.declared.Mode.{Mode}
 use Rattle.mode.specs.declared.Mode.the-variants.{Prf, Mac, Hash, Xof, HashA, XofA}
@@ -30,7 +30,7 @@ pub record Row : Type 0 where
 
 abbrev pub row : Mode → Row
 row Prf = record { feedRate = 32; drawRate = 16; startWord = 0x8080_8c00_0000_0000; keyLength = 16; mostDrawn = 1048576; flips = true; innerRounds = 12 }
-row Mac = record { feedRate = 32; drawRate = 16; startWord = 0x8080_8c00_0000_0080; keyLength = 16; mostDrawn = 16; flips = true; innerRounds = 12 }
+row (Mac length) = record { feedRate = 32; drawRate = 16; startWord = 0x8080_8c00_0000_0000 + 8 * length; keyLength = 16; mostDrawn = length; flips = true; innerRounds = 12 }
 row Hash = record { feedRate = 8; drawRate = 8; startWord = 0x0040_0c00_0000_0100; keyLength = 0; mostDrawn = 32; flips = false; innerRounds = 12 }
 row Xof = record { feedRate = 8; drawRate = 8; startWord = 0x0040_0c00_0000_0000; keyLength = 0; mostDrawn = 1048576; flips = false; innerRounds = 12 }
 row HashA = record { feedRate = 8; drawRate = 8; startWord = 0x0040_0c04_0000_0100; keyLength = 0; mostDrawn = 32; flips = false; innerRounds = 8 }
@@ -39,17 +39,17 @@ row XofA = record { feedRate = 8; drawRate = 8; startWord = 0x0040_0c04_0000_000
 -- the number of a mode
 abbrev pub numberOf : Mode → ℕ
 numberOf Prf = 1
-numberOf Mac = 2
+numberOf (Mac length) = 2
 numberOf Hash = 3
 numberOf Xof = 4
 numberOf HashA = 5
 numberOf XofA = 6
 
 -- the mode that a number names: one that is not 1 to 6 names none
-unfoldable pub named : ℕ → Named
-named n =
+unfoldable pub named : ℕ → ℕ → Named
+named n length =
     cond (eqb n 1) (Is Prf)
-    (cond (eqb n 2) (Is Mac)
+    (cond (eqb n 2) (Is (Mac length))
     (cond (eqb n 3) (Is Hash)
     (cond (eqb n 4) (Is Xof)
     (cond (eqb n 5) (Is HashA)

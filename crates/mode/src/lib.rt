@@ -4,7 +4,8 @@ ghost use Rattle.mode.specs.Mode.{numberOf, named, numberNamed, modeNumb
 
 pub enum Mode {
     Prf,
-    Mac,
+    // with the length of its tags in bytes
+    Mac(u8),
     Hash,
     Xof,
     HashA,
@@ -26,7 +27,8 @@ impl Mode {
 
     pub const PRF_START: u64 = 0x8080_8c00_0000_0000;
 
-    pub const MAC_START: u64 = 0x8080_8c00_0000_0080;
+    // The length of the tag in bits is added.
+    pub const MAC_START: u64 = 0x8080_8c00_0000_0000;
 
     pub const HASH_START: u64 = 0x0040_0c00_0000_0100;
 
@@ -41,8 +43,6 @@ impl Mode {
     pub const NO_KEY: usize = 0;
 
     pub const LONG_OUTPUT: usize = 1_048_576;
-
-    pub const MAC_OUTPUT: usize = 16;
 
     pub const HASH_OUTPUT: usize = 32;
 
@@ -60,7 +60,7 @@ impl Mode {
     {
         match self {
             Mode::Prf => 1,
-            Mode::Mac => 2,
+            Mode::Mac(_) => 2,
             Mode::Hash => 3,
             Mode::Xof => 4,
             Mode::HashA => 5,
@@ -69,13 +69,13 @@ impl Mode {
     }
 
     // The mode that a number names. A number that is not 1 to 6 names none.
-    pub fn of_number(number: u32) -> Named
+    pub fn of_number(number: u32, length: u8) -> Named
         ensures number { λ r. ⌜ numberNamed r ≡ modeNumber number ⌝ }
-        ensures named { λ r. ⌜ r ≡ named number ⌝ }
+        ensures named { λ r. ⌜ r ≡ named number length ⌝ }
     {
         match number {
             1 => Named::Is(Mode::Prf),
-            2 => Named::Is(Mode::Mac),
+            2 => Named::Is(Mode::Mac(length)),
             3 => Named::Is(Mode::Hash),
             4 => Named::Is(Mode::Xof),
             5 => Named::Is(Mode::HashA),
@@ -90,7 +90,7 @@ impl Mode {
     {
         match self {
             Mode::Prf => Mode::KEYED_FEED_RATE,
-            Mode::Mac => Mode::KEYED_FEED_RATE,
+            Mode::Mac(_) => Mode::KEYED_FEED_RATE,
             Mode::Hash => Mode::UNKEYED_RATE,
             Mode::Xof => Mode::UNKEYED_RATE,
             Mode::HashA => Mode::UNKEYED_RATE,
@@ -104,7 +104,7 @@ impl Mode {
     {
         match self {
             Mode::Prf => Mode::KEYED_DRAW_RATE,
-            Mode::Mac => Mode::KEYED_DRAW_RATE,
+            Mode::Mac(_) => Mode::KEYED_DRAW_RATE,
             Mode::Hash => Mode::UNKEYED_RATE,
             Mode::Xof => Mode::UNKEYED_RATE,
             Mode::HashA => Mode::UNKEYED_RATE,
@@ -118,7 +118,7 @@ impl Mode {
     {
         match self {
             Mode::Prf => Mode::PRF_START,
-            Mode::Mac => Mode::MAC_START,
+            Mode::Mac(length) => Mode::MAC_START + 8 * length as u64,
             Mode::Hash => Mode::HASH_START,
             Mode::Xof => Mode::XOF_START,
             Mode::HashA => Mode::HASHA_START,
@@ -132,7 +132,7 @@ impl Mode {
     {
         match self {
             Mode::Prf => Mode::KEY_LENGTH,
-            Mode::Mac => Mode::KEY_LENGTH,
+            Mode::Mac(_) => Mode::KEY_LENGTH,
             Mode::Hash => Mode::NO_KEY,
             Mode::Xof => Mode::NO_KEY,
             Mode::HashA => Mode::NO_KEY,
@@ -146,7 +146,7 @@ impl Mode {
     {
         match self {
             Mode::Prf => Mode::LONG_OUTPUT,
-            Mode::Mac => Mode::MAC_OUTPUT,
+            Mode::Mac(length) => length as usize,
             Mode::Hash => Mode::HASH_OUTPUT,
             Mode::Xof => Mode::LONG_OUTPUT,
             Mode::HashA => Mode::HASH_OUTPUT,
@@ -160,7 +160,7 @@ impl Mode {
     {
         match self {
             Mode::Prf => true,
-            Mode::Mac => true,
+            Mode::Mac(_) => true,
             Mode::Hash => false,
             Mode::Xof => false,
             Mode::HashA => false,
@@ -174,7 +174,7 @@ impl Mode {
     {
         match self {
             Mode::Prf => Mode::INNER_ROUNDS,
-            Mode::Mac => Mode::INNER_ROUNDS,
+            Mode::Mac(_) => Mode::INNER_ROUNDS,
             Mode::Hash => Mode::INNER_ROUNDS,
             Mode::Xof => Mode::INNER_ROUNDS,
             Mode::HashA => Mode::LIGHTER_INNER_ROUNDS,

@@ -3,7 +3,7 @@
 -- Assumes nothing.
 use mathlib.Core.Path.{_≡_, refl, ap, _∙_}
 use mathlib.Core.List.{List, [], _∷_, _++_}
-use Prim.Native.Nat.{ℕ, _≤_}
+use Prim.Native.Nat.{ℕ, _^_, _≤_, _<_}
 use native.Mathlib.Omega.{arith}
 use lib.Bits.{bitXor, xor-zero-r}
 use lib.ListN.{length, take, length-take}
@@ -27,7 +27,8 @@ initial-bytes w key bytes short =
 key-fits : (mode : Mode) (key : List ℕ) → length (take (row mode .keyLength) key) ≤ 16
 key-fits mode key = omega (arith, length-take (row mode .keyLength) key, limits mode .key)
 
-module _ (mode : Mode) (key : List ℕ) (bytes : Bytes key) where
+-- a start word of 64 bits
+module _ (mode : Mode) (key : List ℕ) (bytes : Bytes key) (fits : row mode .startWord < 2 ^ 64) where
   abbrev value : List ℕ
   value = toBytes 8 (row mode .startWord)
 
@@ -38,7 +39,7 @@ module _ (mode : Mode) (key : List ℕ) (bytes : Bytes key) where
   unfolding initial toBytes
   initial-xored =
       start-xored value used refl (omega (arith, key-fits mode key)) (number-bytes 8 (row mode .startWord)) (part-bytes (row mode .keyLength) 0 key bytes)
-      ∙ ap (λ (x : ℕ). xorFrom 8 used (x ∷ 0 ∷ 0 ∷ 0 ∷ 0 ∷ [])) (number-read 8 (row mode .startWord) (limits mode .start))
+      ∙ ap (λ (x : ℕ). xorFrom 8 used (x ∷ 0 ∷ 0 ∷ 0 ∷ 0 ∷ [])) (number-read 8 (row mode .startWord) fits)
 
   -- written out: the words of the key begin behind the start word
   pub initial-words : initial (row mode) key ≡ row mode .startWord ∷ window 0 used 0 ∷ window 0 used 1 ∷ 0 ∷ 0 ∷ []

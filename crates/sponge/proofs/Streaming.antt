@@ -2,7 +2,7 @@
 -- count is document 01's formula. First over any row, by the steps; then for the calls.
 -- Assumes nothing.
 use mathlib.Core.Bool.{false}
-use mathlib.Core.Path.{_≡_, refl, sym, ap, _∙_}
+use mathlib.Core.Path.{_≡_, refl, sym, ap, ap₂, _∙_}
 use mathlib.Core.List.{List, [], _∷_}
 use Prim.Native.Nat.{ℕ, _+_, _-_, _*_, _/_, _^_, _≤_, _<_}
 use native.Mathlib.Omega.{arith}
@@ -154,12 +154,19 @@ module _ (ticket : ℕ) (mode : Mode) (key m : List ℕ) where
       draws : 0 < row mode .drawRate
       draws = rates mode .draws
 
-  -- it stays so as long as no more than a block is drawn, and a tag is judged by it
+  -- a tag is judged by it
+  pub calls-tag : (tag : List ℕ) → tagMatches tag (finished (absorbed m (fresh ticket mode key)))
+      ≡ same tag (take (row mode .mostDrawn) (oneShot (row mode) key m (row mode .drawRate)))
+  unfolding tagMatches others fresh afterRun
+  calls-tag tag = ap₂ (λ (a : Mode) (b : List ℕ). same tag (take (row a .mostDrawn) b)) (ap (λ (x : Record). x .mode) finished-whole) calls-block
+
+  -- and it stays so as long as no more than a block is drawn
   pub calls-verdict : (tag : List ℕ) (d : ℕ) → d ≤ row mode .drawRate
-      → tagMatches tag (squeezed d (finished (absorbed m (fresh ticket mode key)))) ≡ same tag (take (length tag) (oneShot (row mode) key m (row mode .drawRate)))
+      → tagMatches tag (squeezed d (finished (absorbed m (fresh ticket mode key)))) ≡ same tag (take (row mode .mostDrawn) (oneShot (row mode) key m (row mode .drawRate)))
   unfolding tagMatches others fresh afterRun
   calls-verdict tag d h =
-      ap (λ (b : List ℕ). same tag (take (length tag) b))
+      ap₂ (λ (a : Mode) (b : List ℕ). same tag (take (row a .mostDrawn) b))
+      (ap (λ (x : Record). squeezed d x .mode) finished-whole ∙ ap (λ (x : Record). x .mode) (squeezed-is d (withCoreOf ended others)))
       (block-stays d (finished (absorbed m (fresh ticket mode key))) (rw finished-whole refl) (rw finished-whole h) ∙ calls-block)
 
   -- the runs once feeding has ended

@@ -108,6 +108,6 @@ squeezed k r = withDrawn (sum64 (r .drawn) k) (afterDrawing (row (r .mode)) (r .
 unfoldable pub block : Record → List ℕ
 block r = bytesFrom 0 (row (r .mode) .drawRate) (r .words)
 
--- whether a tag equals as many first bytes of the block
+-- whether a tag is the whole tag of the mode: as many first bytes of the block as are drawn at most
 unfoldable pub tagMatches : List ℕ → Record → Bool
-tagMatches tag r = same tag (take (length tag) (block r))
+tagMatches tag r = same tag (take (row (r .mode) .mostDrawn) (block r))

@@ -80,10 +80,10 @@ pub record StreamingCalls (ticket : ℕ) (mode : Mode) (key : List ℕ) (parts :
       → runsEnded (row mode) (start (row mode) key .runs) (length (joined parts)) (total counts) < 2 ^ 64
       → squeezedParts counts (finished (absorbedParts parts (fresh ticket mode key))) .runs
       ≡ runsEnded (row mode) (start (row mode) key .runs) (length (joined parts)) (total counts)
-  -- as long as no more than a block is drawn, a tag is judged by the first bytes of the one-shot output
+  -- as long as no more than a block is drawn, a tag is judged by the first bytes of the one-shot output, as many as are drawn at most
   pub verdict : (tag : List ℕ) → total counts ≤ row mode .drawRate
       → tagMatches tag (squeezedParts counts (finished (absorbedParts parts (fresh ticket mode key))))
-      ≡ same tag (take (length tag) (oneShot (row mode) key (joined parts) (row mode .drawRate)))
+      ≡ same tag (take (row mode .mostDrawn) (oneShot (row mode) key (joined parts) (row mode .drawRate)))
 
 -- The theorem on streaming, for the calls: so it is for every ticket, mode and key, every split of a message and all counts.
 abbrev pub StreamingCallsTheorem : Type 0

@@ -8,9 +8,9 @@ use Rattle.calls.specs.Call.{Call, Open, Feed, Response, final}
 use Rattle.hub.specs.declared.Hub.{Hub}
 use Rattle.hub.specs.Hub.{emptyHub, feedHub, drawHub, onHub}
 
--- MAC tickets in all places, under a key of zeros
+-- MAC tickets in all places, under a key of zeros, with tags of sixteen bytes
 unfoldable pub sixteen : Hub
-sixteen = final onHub emptyHub (replicate mostOpen (Open 2 (replicate 16 0)))
+sixteen = final onHub emptyHub (replicate mostOpen (Open 2 (replicate 16 0) 16))
 
 -- a ticket's run count after so many feeds of the same bytes, as a feed of none answers; 0 where it is refused
 unfoldable pub feedsRuns : ℕ → List ℕ → ℕ → ℕ
@@ -23,6 +23,6 @@ feedInThree first second message =
     Feed 1 (take first message) ∷ Feed 1 (take second rest) ∷ Feed 1 (drop second rest) ∷ []
 
 -- what a draw of as many bytes as are lent gets from ticket 1, which was opened in an empty hub and fed a message in three parts
-unfoldable pub drawnOfParts : ℕ → List ℕ → List ℕ → List ℕ → ℕ → ℕ → Response
-drawnOfParts mode key message out first second =
-    drawHub 1 out 0 (length out) (final onHub emptyHub (Open mode key ∷ feedInThree first second message)) .response
+unfoldable pub drawnOfParts : ℕ → List ℕ → ℕ → List ℕ → List ℕ → ℕ → ℕ → Response
+drawnOfParts mode key tagLength message out first second =
+    drawHub 1 out 0 (length out) (final onHub emptyHub (Open mode key tagLength ∷ feedInThree first second message)) .response

@@ -29,6 +29,6 @@ abbrev pub spongeOut : Named → List ℕ → List ℕ → List ℕ → List ℕ
 spongeOut (Is mode) key message out = oneShot (row mode) key message (length out)
 spongeOut NoMode key message out = out
 
--- 1 for a tag that equals as many first bytes of the MAC's sixteen
-abbrev pub tagAnswer : List ℕ → List ℕ → List ℕ → ℕ
-tagAnswer key message tag = cond (same tag (take (length tag) (oneShot (row Mac) key message 16))) 1 0
+-- 1 for a tag that is the MAC with tags of so many bytes, or, where they are more than sixteen, its first sixteen
+abbrev pub tagAnswer : List ℕ → List ℕ → ℕ → List ℕ → ℕ
+tagAnswer key message tagLength tag = cond (same tag (take tagLength (oneShot (row (Mac tagLength)) key message 16))) 1 0

@@ -7,14 +7,14 @@ ghost use Rattle.calls.specs.Call.{Feed, final};
 ghost use Rattle.hub.specs.Hub.{emptyHub, openHub, feedHub, onHub};
 ghost use Rattle.testbench.specs.Feeds as spec;
 
-// Sixteen MAC tickets under a key of zeros.
+// Sixteen MAC tickets under a key of zeros, with tags of sixteen bytes.
 fn sixteen() -> Hub
     ensures { λ r. ⌜ r ≡ spec.sixteen ⌝ }
 {
     let mut hub = Hub::empty();
     let mut i = 0;
     while i < Hub::PLACES {
-        let reply = hub::open(hub, 2, &[0u8; 16]);
+        let reply = hub::open(hub, 2, &[0u8; 16], 16);
         hub = reply.hub;
         i += 1;
     }
@@ -74,11 +74,11 @@ fn feed_in_three(hub: Hub, message: &[u8], first: usize, second: usize) -> Hub
     controller::feed_often(twice, 1, &message[end..], 1)
 }
 
-// A hub with one ticket, of that mode and under that key, or with none where that is refused.
-fn opened(mode: u32, key: &[u8]) -> Hub
-    ensures { λ r. ⌜ r ≡ openHub mode (now (key .entry)) emptyHub .after ⌝ }
+// A hub with one ticket, of that mode, under that key and with that tag length, or with none where that is refused.
+fn opened(mode: u32, key: &[u8], length: u32) -> Hub
+    ensures { λ r. ⌜ r ≡ openHub mode (now (key .entry)) length emptyHub .after ⌝ }
 {
-    let reply = hub::open(Hub::empty(), mode, key);
+    let reply = hub::open(Hub::empty(), mode, key, length);
     reply.hub
 }
 
@@ -90,13 +90,14 @@ pub extern "C" fn testbench_parts_in_place(
     message: &[u8],
     out: &mut [u8],
     mode: u32,
+    tag_length: u32,
     first: usize,
     second: usize,
 ) -> u64
-    ensures answer { λ r. ⌜ r ≡ spec.drawnOfParts mode (now (key .entry)) (now (message .entry)) (now (out .entry)) first second .answer .runs ⌝ }
-    ensures after { λ r. ⌜ now (out .exit) ≡ spec.drawnOfParts mode (now (key .entry)) (now (message .entry)) (now (out .entry)) first second .buffer ⌝ }
+    ensures answer { λ r. ⌜ r ≡ spec.drawnOfParts mode (now (key .entry)) «tag_length» (now (message .entry)) (now (out .entry)) first second .answer .runs ⌝ }
+    ensures after { λ r. ⌜ now (out .exit) ≡ spec.drawnOfParts mode (now (key .entry)) «tag_length» (now (message .entry)) (now (out .entry)) first second .buffer ⌝ }
 {
-    let fed = feed_in_three(opened(mode, key), message, first, second);
+    let fed = feed_in_three(opened(mode, key, tag_length), message, first, second);
     let count = out.len();
     let reply = hub::draw(fed, 1, out, 0, count);
     let answer = reply.answer;

@@ -57,7 +57,7 @@ fn squeeze_in_two(s: Record, out: &mut [u8], first: usize) -> Record
     begun.squeeze(&mut out[middle..])
 }
 
-// The output of a mode for a message, as much as is lent, with no limit; the answer is how many runs were made. The message is fed and the output drawn in two
+// The output of a mode for a message, as much as is lent, with no limit; the answer is how many runs were made. A tag length counts in mode 2 alone, and any is taken. The message is fed and the output drawn in two
 // parts, so that tests try splits; by the theorem on streaming the cuts make no difference, and the promise does not name them. A key of another length than
 // the mode's is cut, or filled with zeros. A number that is no mode is answered 0, and nothing is written.
 #[no_mangle]
@@ -66,13 +66,14 @@ pub extern "C" fn testbench_sponge(
     message: &[u8],
     out: &mut [u8],
     mode: u32,
+    tag_length: u8,
     cut: usize,
     first: usize,
 ) -> u64
-    ensures answer { λ r. ⌜ r ≡ spongeRuns (named mode) (length (now (message .entry))) (length (now (out .entry))) ⌝ }
-    ensures after { λ r. ⌜ now (out .exit) ≡ spongeOut (named mode) (now (key .entry)) (now (message .entry)) (now (out .entry)) ⌝ }
+    ensures answer { λ r. ⌜ r ≡ spongeRuns (named mode «tag_length») (length (now (message .entry))) (length (now (out .entry))) ⌝ }
+    ensures after { λ r. ⌜ now (out .exit) ≡ spongeOut (named mode «tag_length») (now (key .entry)) (now (message .entry)) (now (out .entry)) ⌝ }
 {
-    let Named::Is(known) = Mode::of_number(mode) else {
+    let Named::Is(known) = Mode::of_number(mode, tag_length) else {
         return 0;
     };
     let fresh = Record::fresh(1, known, key);
@@ -82,12 +83,12 @@ pub extern "C" fn testbench_sponge(
     drawn.runs()
 }
 
-// Whether a tag is as many first bytes of the MAC of a message: 1, or 0.
+// Whether a tag is the MAC of a message, with tags of that length: 1, or 0. No block holds a tag of more than sixteen bytes; of a longer one the first sixteen count.
 #[no_mangle]
-pub extern "C" fn testbench_tag(key: &[u8], message: &[u8], tag: &[u8]) -> u32
-    ensures { λ r. ⌜ r ≡ tagAnswer (now (key .entry)) (now (message .entry)) (now (tag .entry)) ⌝ }
+pub extern "C" fn testbench_tag(key: &[u8], message: &[u8], tag: &[u8], tag_length: u8) -> u32
+    ensures { λ r. ⌜ r ≡ tagAnswer (now (key .entry)) (now (message .entry)) «tag_length» (now (tag .entry)) ⌝ }
 {
-    let fresh = Record::fresh(1, Mode::Mac, key);
+    let fresh = Record::fresh(1, Mode::Mac(tag_length), key);
     let fed = fresh.absorb(message);
     let ended = fed.finish();
     if ended.tag_matches(tag) {

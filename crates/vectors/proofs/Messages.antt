@@ -12,7 +12,7 @@ use lib.Dec.{ltb, lit<}
 use lib.ListN.{length, getD, set, take}
 use lib.Seq.{take-suc-set}
 use Rattle.word.proofs.Bits.{below-at}
-use Rattle.vectors.specs.Messages.{countingFrom, longer, lengthOf}
+use Rattle.vectors.specs.Messages.{countingFrom, longer, lengthOf, tagged, taggedLength}
 
 -- ---- counting
 
@@ -40,3 +40,10 @@ length-most i = go (ltb i 130) refl
       lit< tt,
       (lit< tt, (lit< tt, (lit< tt, (lit< tt, (lit< tt, (lit< tt, (lit< tt, (lit< tt, tt)))))))),
     ) (i - 130))
+
+pub tagged-most : (i : ℕ) → taggedLength i ≤ 1024
+unfolding taggedLength
+tagged-most i = le-of-suc-le-suc (below-at tagged (lit< tt) (
+  lit< tt,
+  (lit< tt, (lit< tt, (lit< tt, (lit< tt, (lit< tt, (lit< tt, (lit< tt, (lit< tt, (lit< tt, (lit< tt, (lit< tt, (lit< tt, (lit< tt, (lit< tt, tt)))))))))))))),
+) i)

@@ -17,3 +17,10 @@ longer = 255 ∷ 256 ∷ 257 ∷ 511 ∷ 512 ∷ 513 ∷ 1000 ∷ 1023 ∷ 1024 
 
 unfoldable pub lengthOf : ℕ → ℕ
 lengthOf i = cond (ltb i 130) i (getD longer (i - 130) 0)
+
+-- those of the messages that tags of every length are given for
+abbrev pub tagged : List ℕ
+tagged = 0 ∷ 1 ∷ 7 ∷ 8 ∷ 15 ∷ 16 ∷ 17 ∷ 31 ∷ 32 ∷ 33 ∷ 63 ∷ 64 ∷ 65 ∷ 100 ∷ 1024 ∷ []
+
+unfoldable pub taggedLength : ℕ → ℕ
+taggedLength i = getD tagged i 0

@@ -1,4 +1,4 @@
-// Prints the outputs of the six modes and of the short function for messages of many lengths, whose bytes count up from 0. The stored output,
+// Prints the outputs of the six modes and of the short function, and MACs with tags of all lengths, for messages of many lengths, whose bytes count up from 0. The stored output,
 // crates/vectors/stdout, is the outside vectors: known answers that were not made with this code. All of it is put into one buffer, which is written once.
 use mode::Mode;
 use sponge::Record;
@@ -9,8 +9,8 @@ ghost use Rattle.mode.specs.Mode.{row};
 ghost use Rattle.sponge.specs.Sponge.{oneShot};
 ghost use Rattle.sponge.specs.Record.{absorbed};
 ghost use Rattle.script.specs.Text.{Wrote};
-ghost use Rattle.vectors.specs.Messages.{countingFrom, lengthOf};
-ghost use Rattle.vectors.specs.Lines.{line, modeLine, shortLine, modeSection, unkeyedSections, shortSection, vectors};
+ghost use Rattle.vectors.specs.Messages.{countingFrom, lengthOf, taggedLength};
+ghost use Rattle.vectors.specs.Lines.{line, modeLine, tagLine, shortLine, modeSection, unkeyedSections, keyedSections, shortSection, tagSection, vectors};
 
 // The longest message.
 const LONGEST: usize = 1024;
@@ -68,6 +68,33 @@ fn nth_length(i: usize) -> usize
     0
 }
 
+// The length of message number i of those that tags of every length are given for.
+fn tagged_length(i: usize) -> usize
+    ensures { λ r. ⌜ r ≡ taggedLength i ⌝ }
+{
+    let tagged = [
+        0usize,
+        1,
+        7,
+        8,
+        15,
+        16,
+        17,
+        31,
+        32,
+        33,
+        63,
+        64,
+        65,
+        100,
+        1024,
+    ];
+    if i < 15 {
+        return tagged[i];
+    }
+    0
+}
+
 // ---- writing: each function takes the place to write at, and answers the place after what it wrote
 
 // A number, a space, the digits of an output, and the end of the line.
@@ -88,13 +115,25 @@ fn put_mode_line(
     mode: Mode,
     count: usize,
     n: usize,
+    number: usize,
 ) -> usize
     requires { ⌜ (16 ≤ length (now bytes)) × (n ≤ length (now bytes)) × (count ≤ 64) ⌝ }
-    ensures { λ r. ⌜ Wrote (now (text .entry)) at (modeLine (now (bytes .entry)) mode count n) (now (text .exit)) r ⌝ }
+    ensures { λ r. ⌜ Wrote (now (text .entry)) at (modeLine (now (bytes .entry)) mode count n number) (now (text .exit)) r ⌝ }
 {
     let mut out = [0u8; 64];
     output(mode, &bytes[..16], &bytes[..n], &mut out[..count]);
-    put_line(text, at, n, &out[..count])
+    put_line(text, at, number, &out[..count])
+}
+
+// The MAC of a message, with tags of t bytes.
+fn put_tag_line(text: &mut [u8], at: usize, bytes: &[u8], n: usize, t: usize) -> usize
+    requires { ⌜ (16 ≤ length (now bytes)) × (n ≤ length (now bytes)) × (t ≤ 16) ⌝ }
+    ensures { λ r. ⌜ Wrote (now (text .entry)) at (tagLine (now (bytes .entry)) n t) (now (text .exit)) r ⌝ }
+{
+    let after_number = script::put_decimal(text, at, n as u64);
+    let line_at = script::put_byte(text, after_number, b' ');
+    let length = t as u8;
+    put_mode_line(text, line_at, bytes, Mode::Mac(length), t, n, t)
 }
 
 // With m and t in these bounds the short function refuses nothing.
@@ -124,7 +163,8 @@ fn put_mode(
     let mut next = script::put_bytes(text, at, heading);
     let mut i = 0;
     while i < 139 {
-        next = put_mode_line(text, next, bytes, mode, count, nth_length(i));
+        let n = nth_length(i);
+        next = put_mode_line(text, next, bytes, mode, count, n, n);
         i += 1;
     }
     next
@@ -144,6 +184,21 @@ fn put_short(text: &mut [u8], at: usize, heading: &[u8], bytes: &[u8]) -> usize
     next
 }
 
+// A line for each of fifteen messages and each length of a tag, 8 to 16.
+fn put_tags(text: &mut [u8], at: usize, heading: &[u8], bytes: &[u8]) -> usize
+    requires { ⌜ 1024 ≤ length (now bytes) ⌝ }
+    ensures { λ r. ⌜ Wrote (now (text .entry)) at (tagSection (now (heading .entry)) (now (bytes .entry))) (now (text .exit)) r ⌝ }
+{
+    let mut next = script::put_bytes(text, at, heading);
+    let mut i = 0;
+    while i < 15 * 9 {
+        let n = tagged_length(i / 9);
+        next = put_tag_line(text, next, bytes, n, i % 9 + 8);
+        i += 1;
+    }
+    next
+}
+
 // The modes that take no key.
 fn put_unkeyed(text: &mut [u8], at: usize, bytes: &[u8]) -> usize
     requires { ⌜ 1024 ≤ length (now bytes) ⌝ }
@@ -155,18 +210,27 @@ fn put_unkeyed(text: &mut [u8], at: usize, bytes: &[u8]) -> usize
     put_mode(text, xofa_at, b"xofa\n", bytes, Mode::XofA, 64)
 }
 
+// Those that take one.
+fn put_keyed(text: &mut [u8], at: usize, bytes: &[u8]) -> usize
+    requires { ⌜ 1024 ≤ length (now bytes) ⌝ }
+    ensures { λ r. ⌜ Wrote (now (text .entry)) at (keyedSections (now (bytes .entry))) (now (text .exit)) r ⌝ }
+{
+    let mac_at = put_mode(text, at, b"prf\n", bytes, Mode::Prf, 64);
+    put_mode(text, mac_at, b"mac\n", bytes, Mode::Mac(16), 16)
+}
+
 // All of it, from the start of the buffer on.
 fn put_vectors(text: &mut [u8]) -> usize
     ensures { λ r. ⌜ Wrote (now (text .entry)) 0 vectors (now (text .exit)) r ⌝ }
 {
     let bytes = counting();
-    let prf_at = put_unkeyed(text, 0, &bytes);
-    let mac_at = put_mode(text, prf_at, b"prf\n", &bytes, Mode::Prf, 64);
-    let short_at = put_mode(text, mac_at, b"mac\n", &bytes, Mode::Mac, 16);
-    put_short(text, short_at, b"prf_short\n", &bytes)
+    let keyed_at = put_unkeyed(text, 0, &bytes);
+    let short_at = put_keyed(text, keyed_at, &bytes);
+    let tags_at = put_short(text, short_at, b"prf_short\n", &bytes);
+    put_tags(text, tags_at, b"mac_lengths\n", &bytes)
 }
 
-// The buffer is longer than the text, which has 85,397 bytes.
+// The buffer is longer than the text, which has 89,555 bytes.
 fn main() {
     let mut text = [0u8; 98304];
     let end = put_vectors(&mut text);

@@ -60,7 +60,7 @@ enum-told c = search needs
 
 returns : tie.Need-returns
 returns c =
-    let none : named (c .before .before .before .before .before .before .args .mode) ≡ NoMode =
+    let none : named (c .before .before .before .before .before .before .args .mode) (c .before .before .before .before .before .before .args .tag-length) ≡ NoMode =
     sym (c .before .before .of-number .ensures .1) ∙ c .enum-told .given .1 in
     rw none (refl, refl)
 
@@ -86,7 +86,7 @@ returns-2 : tie.Need-returns-2
 returns-2 c =
     let a = c .before .before .before .before .before .before .before .before .before .before .before .before .before .before .before .args in
     let m : Mode = c .before .before .before .before .before .before .before .before .before .known .given .0 .0 in
-    let known : named (a .mode) ≡ Is m = sym (c .before .before .before .before .before .before .before .before .before .before .before .of-number .ensures .1)
+    let known : named (a .mode) (a .tag-length) ≡ Is m = sym (c .before .before .before .before .before .before .before .before .before .before .before .of-number .ensures .1)
     ∙ c .before .before .before .before .before .before .before .before .before .known .given .1 in
     let start = c .before .before .before .before .before .before .before .before .before .before .before .before .before .before .before in
     let drawn = c .before .before .before .squeeze-in-two .ensures in

@@ -2,24 +2,15 @@
 -- Assumes nothing.
 use mathlib.Core.Bool.{Bool, cond}
 use mathlib.Core.Path.{_≡_, sym, ap, _∙_}
-use mathlib.Core.List.{List}
-use Prim.Native.Nat.{ℕ}
-use lib.ListN.{length, take}
+use lib.ListN.{take}
 use Rattle.checks.specs.Equality.{same}
 use Rattle.mode.specs.declared.Mode.the-variants.{Mac}
 use Rattle.mode.specs.Mode.{row}
 use Rattle.sponge.specs.Sponge.{oneShot}
-use Rattle.sponge.specs.Record.{fresh, absorbed, finished, tagMatches}
-use Rattle.sponge.proofs.Streaming.{calls-block}
+use Rattle.sponge.proofs.Streaming.{calls-tag}
 use borrow.Author.Needs.{needs}
 use Rattle.testbench.proofs.testbench_tag.Statement.{statement}
 use Rattle.testbench.proofs.testbench_tag.Tie as tie
-
--- the verdict, by the one-shot MAC
-judged : (key message tag : List ℕ) → tagMatches tag (finished (absorbed message (fresh 1 Mac key)))
-    ≡ same tag (take (length tag) (oneShot (row Mac) key message 16))
-unfolding tagMatches
-judged key message tag = ap (λ (b : List ℕ). same tag (take (length tag) b)) (calls-block 1 Mac key message)
 
 fresh-requires : tie.Need-fresh-requires
 fresh-requires c κs = search needs
@@ -36,13 +27,13 @@ tag-matches-requires c κs = search needs
 -- the verdict is that of the one-shot MAC
 verdict : (c : tie.After-tag-matches) → c .tag-matches .result
     ≡ same (c .before .before .before .before .before .before .before .args .tag .now)
-    (take (length (c .before .before .before .before .before .before .before .args .tag .now))
-    (oneShot (row Mac) (c .before .before .before .before .before .before .before .args .key .now)
+    (take (c .before .before .before .before .before .before .before .args .tag-length)
+    (oneShot (row (Mac (c .before .before .before .before .before .before .before .args .tag-length))) (c .before .before .before .before .before .before .before .args .key .now)
     (c .before .before .before .before .before .before .before .args .message .now) 16))
 verdict c =
     let a = c .before .before .before .before .before .before .before .args in
     rw (c .tag-matches .ensures, c .before .finish .ensures, c .before .before .absorb .ensures, c .before .before .before .fresh .ensures)
-    (judged (a .key .now) (a .message .now) (a .tag .now))
+    (calls-tag 1 (Mac (a .tag-length)) (a .key .now) (a .message .now) (a .tag .now))
 
 returns : tie.Need-returns
 returns c = ap (λ (t : Bool). cond t 1 0) (sym (c .if1 .taken) ∙ verdict (c .before))

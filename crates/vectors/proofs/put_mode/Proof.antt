@@ -16,7 +16,7 @@ use Rattle.vectors.proofs.put_mode.Tie as tie
 
 abbrev Inv-loop : tie.InvT-loop
 Inv-loop text₀ at heading bytes mode count next₀ i₀ text next i =
-    (i ≤ 139) × Wrote text₀ next₀ (lines (λ (j : ℕ). modeLine bytes mode count (lengthOf j)) i) text next
+    (i ≤ 139) × Wrote text₀ next₀ (lines (λ (j : ℕ). modeLine bytes mode count (lengthOf j) (lengthOf j)) i) text next
 
 abbrev μ-loop : tie.MeasureT-loop
 μ-loop text₀ at heading bytes mode count next₀ i₀ text next i = 139 - i
@@ -27,13 +27,13 @@ put-bytes-requires c κs = search needs
 loop-holds : tie.Need-loop-holds Inv-loop μ-loop
 loop-holds c =
     let a = c .before .before .before .before .before .before .before .args in
-    (omega arith, wrote-no-line (λ (j : ℕ). modeLine (now (a .bytes)) (a .mode) (a .count) (lengthOf j)) (c .before .before .put-bytes .ensures))
+    (omega arith, wrote-no-line (λ (j : ℕ). modeLine (now (a .bytes)) (a .mode) (a .count) (lengthOf j) (lengthOf j)) (c .before .before .put-bytes .ensures))
 
 nth-length-requires : tie.Need-nth-length-requires Inv-loop μ-loop
 nth-length-requires c κs = search needs
 
 put-mode-line-requires : tie.Need-put-mode-line-requires Inv-loop μ-loop
-put-mode-line-requires c κs = (omega arith, omega (arith, c .nth-length .ensures, length-most (c .before .before .before .loop .i)), omega arith)
+put-mode-line-requires c κs = (omega arith, omega (arith, c .before .nth-length .ensures, length-most (c .before .before .before .loop .i)), omega arith)
 
 add-i : tie.Need-add-i Inv-loop μ-loop
 add-i c = search needs
@@ -46,8 +46,8 @@ loop-again c =
     let l = c .before .before .before .before .before .before .loop in
     let a = c .before .before .before .before .before .before .before .before .before .before .before .before .before .before .args in (
       omega arith,
-      wrote-next (λ (j : ℕ). modeLine (now (a .bytes)) (a .mode) (a .count) (lengthOf j)) (l .i) (l .inv .1)
-          (rw (c .before .before .before .nth-length .ensures) at (c .before .before .put-mode-line .ensures)),
+      wrote-next (λ (j : ℕ). modeLine (now (a .bytes)) (a .mode) (a .count) (lengthOf j) (lengthOf j)) (l .i) (l .inv .1)
+          (rw (c .before .before .before .before .nth-length .ensures) at (c .before .before .put-mode-line .ensures)),
     )
 
 same-length : tie.Need-same-length Inv-loop μ-loop

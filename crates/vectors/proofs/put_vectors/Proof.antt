@@ -15,23 +15,11 @@ slice-aggregate-put-unkeyed c = search needs
 put-unkeyed-requires : tie.Need-put-unkeyed-requires
 put-unkeyed-requires c κs = search needs
 
-slice-aggregate-put-mode : tie.Need-slice-aggregate-put-mode
-slice-aggregate-put-mode c = search needs
+slice-aggregate-put-keyed : tie.Need-slice-aggregate-put-keyed
+slice-aggregate-put-keyed c = search needs
 
-slice-aggregate-put-mode-2 : tie.Need-slice-aggregate-put-mode-2
-slice-aggregate-put-mode-2 c = search needs
-
-put-mode-requires : tie.Need-put-mode-requires
-put-mode-requires c κs = search needs
-
-slice-aggregate-put-mode-3 : tie.Need-slice-aggregate-put-mode-3
-slice-aggregate-put-mode-3 c = search needs
-
-slice-aggregate-put-mode-4 : tie.Need-slice-aggregate-put-mode-4
-slice-aggregate-put-mode-4 c = search needs
-
-put-mode-requires-2 : tie.Need-put-mode-requires-2
-put-mode-requires-2 c κs = search needs
+put-keyed-requires : tie.Need-put-keyed-requires
+put-keyed-requires c κs = search needs
 
 slice-aggregate-put-short : tie.Need-slice-aggregate-put-short
 slice-aggregate-put-short c = search needs
@@ -42,18 +30,27 @@ slice-aggregate-put-short-2 c = search needs
 put-short-requires : tie.Need-put-short-requires
 put-short-requires c κs = search needs
 
+slice-aggregate-put-tags : tie.Need-slice-aggregate-put-tags
+slice-aggregate-put-tags c = search needs
+
+slice-aggregate-put-tags-2 : tie.Need-slice-aggregate-put-tags-2
+slice-aggregate-put-tags-2 c = search needs
+
+put-tags-requires : tie.Need-put-tags-requires
+put-tags-requires c κs = search needs
+
 same-length : tie.Need-same-length
 same-length c = search needs
 
 returns : tie.Need-returns
 unfolding vectors vectorsOf
 returns c =
-    rw (c .before .before .before .before .before .before .before .before .before .before .before .before .before .before .before .before .before .before .before .before .before .before .before .counting .ensures) at
-    (wrote-more
-    (wrote-more
-    (wrote-more (c .before .before .before .before .before .before .before .before .before .before .before .before .before .before .before .before .before .before .before .before .put-unkeyed .ensures) (c .before .before .before .before .before .before .before .before .before .before .before .before .before .before .put-mode .ensures))
-    (c .before .before .before .before .before .before .before .before .put-mode2 .ensures))
-    (c .before .before .put-short .ensures))
+    let tags = c .before .before in
+    let short = tags .before .before .before .before .before .before in
+    let keyed = short .before .before .before .before .before .before in
+    let unkeyed = keyed .before .before .before .before .before in
+    rw (unkeyed .before .before .before .counting .ensures) at
+    (wrote-more (wrote-more (wrote-more (unkeyed .put-unkeyed .ensures) (keyed .put-keyed .ensures)) (short .put-short .ensures)) (tags .put-tags .ensures))
 
 pub put-vectors-spec : {M : Type 1} → statement M
 put-vectors-spec =
@@ -62,14 +59,13 @@ put-vectors-spec =
     counting-requires
     slice-aggregate-put-unkeyed
     put-unkeyed-requires
-    slice-aggregate-put-mode
-    slice-aggregate-put-mode-2
-    put-mode-requires
-    slice-aggregate-put-mode-3
-    slice-aggregate-put-mode-4
-    put-mode-requires-2
+    slice-aggregate-put-keyed
+    put-keyed-requires
     slice-aggregate-put-short
     slice-aggregate-put-short-2
     put-short-requires
+    slice-aggregate-put-tags
+    slice-aggregate-put-tags-2
+    put-tags-requires
     same-length
     returns)

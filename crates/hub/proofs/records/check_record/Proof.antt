@@ -4,7 +4,8 @@ use mathlib.Core.Bool.{false, not}
 use mathlib.Core.Path.{_≡_, sym, ap, ap₂, _∙_}
 use borrow.Author.Tests.{eq-eqb, ne-eqb}
 use lib.Dec.{eqb}
-use Rattle.mode.specs.Mode.{numberOf}
+use Rattle.mode.specs.declared.Mode.{Mode}
+use Rattle.mode.specs.Mode.{row, numberOf}
 use Rattle.sponge.specs.declared.record.Record.{Record}
 use Rattle.sponge.specs.Record.{tagMatches}
 use Rattle.calls.specs.declared.Answer.{Answer}
@@ -21,6 +22,10 @@ mode-number c = c .number .ensures ∙ ap numberOf (c .before .mode .ensures)
 
 is-mac : (c : tie.Else2) → not (eqb (numberOf (c .before .before .before .before .before .args .before .mode)) 2) ≡ false
 is-mac c = ap not (eq-eqb _ _ (sym (mode-number (c .before)) ∙ c .if2 .left))
+
+-- the length of its tags
+tag-length : (c : tie.After-most-drawn) → c .most-drawn .result ≡ row (c .before .before .before .before .before .before .args .before .mode) .mostDrawn
+tag-length c = c .most-drawn .ensures ∙ ap (λ (m : Mode). row m .mostDrawn) (c .before .before .before .mode .ensures)
 
 refused-requires : tie.Need-refused-requires
 refused-requires c κs = search needs
@@ -42,15 +47,15 @@ returns-2 c =
     let other = ap not (ne-eqb _ _ (λ e. c .before .if2 .taken (mode-number (c .before .before) ∙ e))) in
     c .refused2 .ensures ∙ ap workedOf (sym (check-18 _ _ _ (c .before .before .before .before .if1 .left) other))
 
-wrong-tag-length-requires : tie.Need-wrong-tag-length-requires
-wrong-tag-length-requires c κs = search needs
+most-drawn-requires : tie.Need-most-drawn-requires
+most-drawn-requires c κs = search needs
 
 refused-requires-3 : tie.Need-refused-requires-3
 refused-requires-3 c κs = search needs
 
 returns-3 : tie.Need-returns-3
 returns-3 c =
-    let wrong = sym (c .before .before .wrong-tag-length .ensures) ∙ c .before .if3 .taken in
+    let wrong = ap not (ne-eqb _ _ (λ e. c .before .if3 .taken (tag-length (c .before .before) ∙ sym e))) in
     c .refused3 .ensures ∙ ap workedOf (sym (check-4 _ _ _ (c .before .before .before .before .before .before .if1 .left)
     (is-mac (c .before .before .before)) wrong))
 
@@ -68,7 +73,7 @@ judged-requires c κs = search needs
 
 returns-4 : tie.Need-returns-4
 returns-4 c =
-    let right = sym (c .before .before .before .before .before .wrong-tag-length .ensures) ∙ c .before .before .before .before .if3 .left in
+    let right = ap not (eq-eqb _ _ (sym (c .before .before .before .before .if3 .left) ∙ tag-length (c .before .before .before .before .before))) in
     let e = c .before .before .before .finish .ensures in
     let verdict = c .before .before .tag-matches .ensures ∙ ap (tagMatches _) e in
     let told : c .judged .result ≡ judged (c .before .before .tag-matches .result) (c .before .runs .result) = c .judged .ensures in
@@ -86,7 +91,7 @@ check-record-spec =
     number-requires
     refused-requires-2
     returns-2
-    wrong-tag-length-requires
+    most-drawn-requires
     refused-requires-3
     returns-3
     finish-requires

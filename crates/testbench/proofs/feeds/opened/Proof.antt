@@ -17,7 +17,7 @@ open-requires c κs = search needs
 returns : tie.Need-returns
 returns c =
     let a = c .before .before .before .before .args in
-    ap (λ (r : Reply). r .hub) (c .before .«open» .ensures) ∙ ap (λ (h : Hub). openHub (a .mode) (a .key .now) h .after) (c .before .before .empty .ensures)
+    ap (λ (r : Reply). r .hub) (c .before .«open» .ensures) ∙ ap (λ (h : Hub). openHub (a .mode) (a .key .now) (a .length) h .after) (c .before .before .empty .ensures)
 
 pub opened-spec : {M : Type 1} → statement M
 opened-spec = tie.close (tie.spec empty-requires open-requires returns)

@@ -15,7 +15,7 @@ use Rattle.testbench.proofs.feeds.sixteen.Statement.{statement}
 use Rattle.testbench.proofs.feeds.sixteen.Tie as tie
 
 abbrev Inv-loop : tie.InvT-loop
-Inv-loop hub₀ i₀ t4 hub i = (i ≤ 16) × (final onHub hub (replicate (16 - i) (Open 2 (replicate 16 0))) ≡ sixteen)
+Inv-loop hub₀ i₀ t4 hub i = (i ≤ 16) × (final onHub hub (replicate (16 - i) (Open 2 (replicate 16 0) 16)) ≡ sixteen)
 
 abbrev μ-loop : tie.MeasureT-loop
 μ-loop hub₀ i₀ t4 hub i = 16 - i
@@ -25,7 +25,7 @@ empty-requires c κs = search needs
 
 loop-holds : tie.Need-loop-holds Inv-loop μ-loop
 unfolding sixteen
-loop-holds c = (omega arith, ap (λ (h : Hub). final onHub h (replicate 16 (Open 2 (replicate 16 0)))) (c .empty .ensures))
+loop-holds c = (omega arith, ap (λ (h : Hub). final onHub h (replicate 16 (Open 2 (replicate 16 0) 16))) (c .empty .ensures))
 
 slice-aggregate-open : tie.Need-slice-aggregate-open Inv-loop μ-loop
 slice-aggregate-open c = search needs

@@ -1,6 +1,7 @@
 -- `sponge::Record::fresh` meets its contract.
 -- Assumes nothing.
 use mathlib.Core.Path.{refl, sym}
+use Prim.Native.Nat.{_^_, _<_}
 use native.Mathlib.Omega.{arith}
 use denote.Ref.{now}
 use lib.Seq.{length-take-le}
@@ -41,7 +42,9 @@ unfolding fresh
 returns c =
     let a = c .before .before .before .before .before .before .before .before .args in
     let bytes : Bytes (now (a .key)) = λ i. omega (arith, c .before .before .before .before .before .before .before .shared-slice-known .given i) in
-    rw (c .run .ensures, c .before .word-of-bytes2 .ensures, c .before .before .word-of-bytes .ensures, c .before .before .before .start-word .ensures, c .before .before .before .before .before .shorter .ensures, c .before .before .before .before .before .before .key-length .ensures, take-min (row (a .mode) .keyLength) (now (a .key)), initial-words (a .mode) (now (a .key)) bytes) refl
+    let word = c .before .before .before .start-word in
+    let fits : row (a .mode) .startWord < 2 ^ 64 = omega (arith, word .ok, word .ensures) in
+    rw (c .run .ensures, c .before .word-of-bytes2 .ensures, c .before .before .word-of-bytes .ensures, c .before .before .before .start-word .ensures, c .before .before .before .before .before .shorter .ensures, c .before .before .before .before .before .before .key-length .ensures, take-min (row (a .mode) .keyLength) (now (a .key)), initial-words (a .mode) (now (a .key)) bytes fits) refl
 
 pub fresh-spec : {M : Type 1} → statement M
 fresh-spec =

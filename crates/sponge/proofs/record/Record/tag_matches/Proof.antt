@@ -10,7 +10,7 @@ use lib.ListN.{length, getD}
 use Rattle.word.proofs.Bits.{xor-none, or-none}
 use Rattle.mode.specs.Mode.{row}
 use Rattle.sponge.specs.Record.{block, tagMatches}
-use Rattle.sponge.proofs.Tags.{SameBelow, too-long, judged}
+use Rattle.sponge.proofs.Tags.{SameBelow, another-length, judged}
 use Rattle.sponge.proofs.record.Record.tag_matches.Statement.{statement}
 use Rattle.sponge.proofs.record.Record.tag_matches.Tie as tie
 
@@ -20,14 +20,15 @@ Inv-loop tag words difference₀ i₀ difference i = (i ≤ length tag) × (diff
 abbrev μ-loop : tie.MeasureT-loop
 μ-loop tag words difference₀ i₀ difference i = length tag - i
 
-draw-rate-requires : tie.Need-draw-rate-requires Inv-loop μ-loop
-draw-rate-requires c κs = search needs
+whole-tag-requires : tie.Need-whole-tag-requires Inv-loop μ-loop
+whole-tag-requires c κs = search needs
 
 returns : tie.Need-returns Inv-loop μ-loop
 unfolding tagMatches block
 returns c =
     let a = c .before .before .before .before .args in
-    sym (too-long (a .tag .now) (a .self .words) (row (a .self .mode) .drawRate) (omega (arith, c .before .draw-rate .ensures)))
+    sym (another-length (a .tag .now) (a .self .words) (row (a .self .mode) .mostDrawn) (row (a .self .mode) .drawRate)
+    (λ e. c .if1 .taken (c .before .whole-tag .ensures ∙ sym e)))
 
 loop-holds : tie.Need-loop-holds Inv-loop μ-loop
 loop-holds c = (search needs, (λ e. below-none _), λ e. refl)
@@ -67,7 +68,8 @@ returns-2 c =
     let a = c .before .before .before .before .before .before .args in
     let tag = a .tag .now in
     let all : last .i ≡ length tag = omega arith in
-    judged tag (a .self .words) (row (a .self .mode) .drawRate) (last .difference) (omega (arith, c .before .before .before .draw-rate .ensures))
+    judged tag (a .self .words) (row (a .self .mode) .mostDrawn) (row (a .self .mode) .drawRate) (last .difference)
+    (sym (c .before .before .if1 .left) ∙ c .before .before .before .whole-tag .ensures)
     (rw all at (last .inv .1)) (rw all at (last .inv .2))
 
 pub tag-matches-spec : {M : Type 1} → statement M
@@ -76,7 +78,7 @@ tag-matches-spec =
     (tie.spec
     Inv-loop
     μ-loop
-    draw-rate-requires
+    whole-tag-requires
     returns
     loop-holds
     shared-slice-read-difference
