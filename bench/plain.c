@@ -88,8 +88,9 @@ static inline uint64_t hash(uint64_t start, int rounds, const uint8_t *message, 
 uint64_t plain_hash(const uint8_t *message, size_t length, uint8_t out[32]) { return hash(0x00400c0000000100u, 12, message, length, out); }
 uint64_t plain_hasha(const uint8_t *message, size_t length, uint8_t out[32]) { return hash(0x00400c0400000100u, 8, message, length, out); }
 
-uint64_t plain_mac(const uint8_t key[16], const uint8_t *message, size_t length, uint8_t out[16]) {
-    uint64_t s[5] = {0x80808c0000000080u, load(key), load(key + 8), 0, 0}, runs = 1;
+/* The start word has the tag's length in bits; of the output there is a block. */
+static inline uint64_t mac(uint64_t start, const uint8_t key[16], const uint8_t *message, size_t length, uint8_t out[16]) {
+    uint64_t s[5] = {start, load(key), load(key + 8), 0, 0}, runs = 1;
     permute(s, 12);
     for (; length >= 32; message += 32, length -= 32, runs++) {
         for (int j = 0; j < 4; j++) s[j] ^= load(message + 8 * j);
@@ -103,6 +104,15 @@ uint64_t plain_mac(const uint8_t key[16], const uint8_t *message, size_t length,
     store(out, s[0]);
     store(out + 8, s[1]);
     return runs + 1;
+}
+
+uint64_t plain_mac(const uint8_t key[16], const uint8_t *message, size_t length, uint8_t out[16]) { return mac(0x80808c0000000080u, key, message, length, out); }
+
+uint64_t plain_mac_tag(const uint8_t key[16], const uint8_t *message, size_t length, uint8_t *tag, size_t tag_length) {
+    uint8_t out[16];
+    uint64_t runs = mac(0x80808c0000000000u + 8 * tag_length, key, message, length, out);
+    memcpy(tag, out, tag_length);
+    return runs;
 }
 
 uint32_t plain_seal_frame(const uint8_t *key, size_t key_length, uint8_t *frame, size_t frame_length, size_t body) {

@@ -12,10 +12,12 @@ uint64_t plain_permute_chain(uint64_t x0, uint64_t times);
 /* Permutes five words, by eight rounds, or by twelve for any other number. */
 void plain_permute(uint64_t s[5], int rounds);
 
-/* Both hashes and the MAC of a message, 32 and 16 bytes; the answer is how many times the state was permuted. */
+/* Both hashes and the MAC of a message, 32 and 16 bytes, and the MAC with tags of another length, of at most 16 bytes; the answer is how many times the state was
+ * permuted. */
 uint64_t plain_hash(const uint8_t *message, size_t length, uint8_t out[32]);
 uint64_t plain_hasha(const uint8_t *message, size_t length, uint8_t out[32]);
 uint64_t plain_mac(const uint8_t key[16], const uint8_t *message, size_t length, uint8_t out[16]);
+uint64_t plain_mac_tag(const uint8_t key[16], const uint8_t *message, size_t length, uint8_t *tag, size_t tag_length);
 
 /* The functions of include/firmware.h. */
 uint32_t plain_prf_short(const uint8_t *key, size_t key_length, const uint8_t *message, size_t message_length, uint8_t *out, size_t out_length,

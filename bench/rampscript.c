@@ -33,10 +33,9 @@ static uint64_t next_word(uint64_t *state) {
 
 static void write_words(FILE *file, uint64_t *state, int words) {
     for (int i = 0; i < words; i++) fprintf(file, "%016" PRIx64, next_word(state));
-    fputc('\n', file);
 }
 
-/* Sixteen MACs, and feeds of 32 bytes to each in turn. */
+/* Sixteen MACs, with tags of sixteen bytes, and feeds of 32 bytes to each in turn. */
 static void write_script(const char *path, int feeds) {
     FILE *file = fopen(path, "w");
     uint64_t state = 1;
@@ -45,10 +44,12 @@ static void write_script(const char *path, int feeds) {
     for (int i = 0; i < TICKETS; i++) {
         fputs("open 2 ", file);
         write_words(file, &state, 2);
+        fputs("10\n", file);
     }
     for (int i = 0; i < feeds; i++) {
         fprintf(file, "feed %d ", 1 + i % TICKETS);
         write_words(file, &state, 4);
+        fputc('\n', file);
     }
     if (ferror(file) || fclose(file)) fail(path);
 }

@@ -9,19 +9,20 @@
 
 enum { TICKETS = 16, MOST_FED = 16777216, MOST_BYTES = 1024, MOST_LINES = 1000000, LONGEST_LINE = 2100, LONGEST_ANSWER = 2100, BUFFER = 65536 };
 
-/* The six modes, by number; number 0 is none. A run has `rounds` rounds, but the first and the last block's have all twelve. */
+/* The six modes, by number; number 0 is none. A run has `rounds` rounds, but the first and the last block's have all twelve. The tag length of a MAC comes to its start
+ * word, in bits, and to the most that is drawn. */
 struct mode {
     uint32_t feed_rate, draw_rate, key, most_drawn;
     uint64_t start;
     int rounds;
 };
 
-enum { MODES = 6, ALL = 12 };
+enum { MODES = 6, MAC = 2, SHORTEST_TAG = 8, LONGEST_TAG = 16, ALL = 12 };
 
 static const struct mode modes[MODES + 1] = {
     {0, 0, 0, 0, 0, 0},
     {32, 16, 16, 1048576, 0x80808c0000000000u, 12},
-    {32, 16, 16, 16, 0x80808c0000000080u, 12},
+    {32, 16, 16, 0, 0x80808c0000000000u, 12},
     {8, 8, 0, 32, 0x00400c0000000100u, 12},
     {8, 8, 0, 1048576, 0x00400c0000000000u, 12},
     {8, 8, 0, 32, 0x00400c0400000100u, 8},
@@ -31,7 +32,7 @@ static const struct mode modes[MODES + 1] = {
 /* A free place has ticket 0. */
 struct record {
     uint64_t words[5], runs;
-    uint32_t ticket, mode, fed, drawn;
+    uint32_t ticket, mode, fed, drawn, most_drawn;
     int feeding;
 };
 
@@ -153,15 +154,18 @@ static uint32_t find(uint32_t ticket, struct record **r) {
 }
 
 /* The calls. */
-static struct answer call_open(uint32_t mode, size_t key) {
+static struct answer call_open(uint32_t mode, size_t count) {
     struct record *r = hub.records;
+    /* The last byte is a MAC's tag length. */
+    uint32_t tag = mode == MAC && count ? bytes[--count] : 0;
     if (mode < 1 || mode > MODES) return no(1);
-    if (key != modes[mode].key) return no(2);
+    if (count != modes[mode].key) return no(2);
+    if (mode == MAC && (tag < SHORTEST_TAG || tag > LONGEST_TAG)) return no(21);
     if (hub.issued == UINT32_MAX) return no(14);
     while (r < hub.records + TICKETS && r->ticket) r++;
     if (r == hub.records + TICKETS) return no(13);
-    *r = (struct record){.words = {modes[mode].start}, .ticket = ++hub.issued, .mode = mode, .feeding = 1};
-    if (key) {
+    *r = (struct record){.words = {modes[mode].start + 8 * tag}, .ticket = ++hub.issued, .mode = mode, .most_drawn = modes[mode].most_drawn + tag, .feeding = 1};
+    if (count) {
         r->words[1] = load(bytes);
         r->words[2] = load(bytes + 8);
     }
@@ -177,15 +181,15 @@ static struct answer call_feed(struct record *r, size_t count) {
 }
 
 static struct answer call_draw(struct record *r, size_t count) {
-    if (r->drawn + count > modes[r->mode].most_drawn) return no(17);
+    if (r->drawn + count > r->most_drawn) return no(17);
     end_feeding(r);
     draw(r, count);
     return (struct answer){"ok", r->runs, count};
 }
 
 static struct answer call_check(struct record *r, size_t tag) {
-    if (r->mode != 2) return no(18);
-    if (tag < 8 || tag > 16) return no(4);
+    if (r->mode != MAC) return no(18);
+    if (tag != r->most_drawn) return no(4);
     end_feeding(r);
     return (struct answer){tag_matches(r, tag) ? "pass" : "fail", r->runs, 0};
 }

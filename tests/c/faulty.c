@@ -45,7 +45,7 @@ uint32_t write_outside(const uint8_t *key, size_t key_length, uint8_t *frame, si
 }
 
 uint64_t branch_on_part(const uint8_t *key, size_t key_length, const uint8_t *message, size_t message_length, uint8_t *out, size_t out_length,
-                        uint32_t mode, size_t first, size_t second) {
+                        uint32_t mode, uint32_t tag_length, size_t first, size_t second) {
     if (second > 0 && first < message_length && message[first] > 100) store = 1;
-    return testbench_parts_in_place(key, key_length, message, message_length, out, out_length, mode, first, second);
+    return testbench_parts_in_place(key, key_length, message, message_length, out, out_length, mode, tag_length, first, second);
 }

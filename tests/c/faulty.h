@@ -21,6 +21,6 @@ uint32_t write_outside(const uint8_t *key, size_t key_length, uint8_t *frame, si
 
 /* A branch by the first byte of a message's second part. */
 uint64_t branch_on_part(const uint8_t *key, size_t key_length, const uint8_t *message, size_t message_length, uint8_t *out, size_t out_length,
-                        uint32_t mode, size_t first, size_t second);
+                        uint32_t mode, uint32_t tag_length, size_t first, size_t second);
 
 #endif

@@ -149,6 +149,25 @@ static void vectors_of_the_mac(void) {
     expect(count == 139, "vectors of the MAC", (size_t)count, 139);
 }
 
+/* Plain C is held to tags of every length. A frame has one of 16 bytes, which does not begin with a shorter one. */
+static void tag_vector(size_t n, size_t t, const char *output) {
+    uint8_t body[2048], frame[2048], tag[16], out[17];
+    counting(body, n);
+    memset(out, BEFORE, sizeof out);
+    expect(unhex(output, tag) == t, "a vector's length", n, t);
+    plain_mac_tag(key, body, n, out, t);
+    expect(memcmp(out, tag, t) == 0, "plain MAC with a tag length", n, t);
+    for (size_t i = t; i < sizeof out; i++) expect(out[i] == BEFORE, "plain MAC, a byte after the tag", n, t);
+    memcpy(frame, body, n);
+    ascon_seal_frame(key, 16, frame, n + 16, n);
+    expect((memcmp(frame + n, tag, t) == 0) == (t == 16), "seal, tag of another length", n, t);
+}
+
+static void vectors_of_tag_lengths(void) {
+    int count = for_each_vector("mac_lengths", 3, tag_vector);
+    expect(count == 135, "vectors of tag lengths", (size_t)count, 135);
+}
+
 /* Bodies of every length, in frames that begin at every place of a word, with no byte after the tag, a few or many. */
 static void every_body_length_at_every_offset(void) {
     static const size_t trails[] = {0, 1, 7, 8, 16, 33};
@@ -243,6 +262,7 @@ int main(int argc, char **argv) {
         {"refused_messages_of_the_short_function", refused_messages_of_the_short_function},
         {"refused_outputs_of_the_short_function", refused_outputs_of_the_short_function},
         {"vectors_of_the_mac", vectors_of_the_mac},
+        {"vectors_of_tag_lengths", vectors_of_tag_lengths},
         {"every_body_length_at_every_offset", every_body_length_at_every_offset},
         {"a_bit_damaged_anywhere", a_bit_damaged_anywhere},
         {"refused_keys_of_frames", refused_keys_of_frames},

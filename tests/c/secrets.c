@@ -28,7 +28,7 @@ enum { PUBLIC = 0x00, SECRET = 0xff };
 typedef uint32_t short_function(const uint8_t *, size_t, const uint8_t *, size_t, uint8_t *, size_t, size_t);
 typedef uint32_t sealing(const uint8_t *, size_t, uint8_t *, size_t, size_t);
 typedef uint32_t judging(const uint8_t *, size_t, const uint8_t *, size_t, size_t);
-typedef uint64_t feeding(const uint8_t *, size_t, const uint8_t *, size_t, uint8_t *, size_t, uint32_t, size_t, size_t);
+typedef uint64_t feeding(const uint8_t *, size_t, const uint8_t *, size_t, uint8_t *, size_t, uint32_t, uint32_t, size_t, size_t);
 
 struct functions {
     short_function *prf_short;
@@ -210,37 +210,39 @@ static void permuted_states(void) {
     }
 }
 
-/* The modes whose outputs plain C gives whole. */
+/* The modes whose outputs plain C gives whole, with the lengths of their outputs. That of a MAC is its tag length. */
 enum { MAC = 2, HASH = 3, HASHA = 5 };
-static const uint32_t modes[] = {MAC, HASH, HASHA};
-enum { MODES = sizeof modes / sizeof *modes };
+static const struct {
+    uint32_t mode;
+    uint8_t length;
+} outputs[] = {{MAC, 8}, {MAC, 11}, {MAC, 16}, {HASH, 32}, {HASHA, 32}};
+enum { OUTPUTS = sizeof outputs / sizeof *outputs };
 
-static uint64_t plain_output(uint32_t mode, size_t n, uint8_t *out) {
-    if (mode == MAC) return plain_mac(key, message, n, out);
+static uint64_t plain_output(uint32_t mode, size_t n, uint8_t *out, size_t t) {
+    if (mode == MAC) return plain_mac_tag(key, message, n, out, t);
     return mode == HASH ? plain_hash(message, n, out) : plain_hasha(message, n, out);
 }
 
 /* The MAC or a hash of n bytes, of which the first part had so many, and the runs made. */
-static void expect_output(uint32_t mode, size_t n, size_t first, uint8_t *out, uint64_t runs) {
+static void expect_output(uint32_t mode, size_t n, size_t first, uint8_t *out, size_t t, uint64_t runs) {
     uint8_t expected[32];
-    size_t t = mode == MAC ? 16 : 32;
     expect(marked(&runs, sizeof runs, PUBLIC), mode == MAC ? "a MAC's runs depend on a secret" : "a hash's runs depend on a secret", n, first);
     /* Of no bytes a hash, which takes no key, is public. */
     expect(marked(out, t, mode != MAC && n == 0 ? PUBLIC : SECRET), mode == MAC ? "a MAC that does not depend on the secrets" : "a hash that does not depend on the secrets", n, first);
     reveal(out, t);
-    uint64_t right = plain_output(mode, n, expected);
+    uint64_t right = plain_output(mode, n, expected, t);
     expect(runs == right && memcmp(out, expected, t) == 0, mode == MAC ? "MAC" : mode == HASH ? "hash" : "hasha", n, first);
 }
 
-/* The MAC and both hashes of a message in two parts, drawn in two. */
+/* MACs with tags of three lengths and both hashes of a message in two parts, drawn in two. */
 static void sponges(void) {
     for (size_t i = 0; i < BODIES; i++) {
-        for (size_t j = 0; j < MODES; j++) {
-            uint32_t mode = modes[j];
-            size_t n = bodies[i], t = mode == MAC ? 16 : 32;
+        for (size_t j = 0; j < OUTPUTS; j++) {
+            uint32_t mode = outputs[j].mode;
+            size_t n = bodies[i], t = outputs[j].length;
             uint8_t *k = secret(key, 16), *in = secret(message, n), *out = block(message, t);
-            uint64_t runs = testbench_sponge(k, 16, in, n, out, t, mode, n / 3, t / 3);
-            expect_output(mode, n, n / 3, out, runs);
+            uint64_t runs = testbench_sponge(k, 16, in, n, out, t, mode, outputs[j].length, n / 3, t / 3);
+            expect_output(mode, n, n / 3, out, t, runs);
             free(k);
             free(in);
             free(out);
@@ -263,24 +265,39 @@ static void feeds(void) {
     }
 }
 
-static void fed_in_parts(uint32_t mode, size_t first, size_t second, size_t rest) {
-    size_t n = first + second + rest, t = mode == MAC ? 16 : 32, key_length = mode == MAC ? 16 : 0;
+static void fed_in_parts(uint32_t mode, uint32_t t, size_t first, size_t second, size_t rest) {
+    size_t n = first + second + rest, key_length = mode == MAC ? 16 : 0;
     uint8_t *k = secret(key, key_length), *in = secret(message, n), *out = block(message, t);
-    uint64_t runs = tested.parts(k, key_length, in, n, out, t, mode, first, second);
-    expect_output(mode, n, first, out, runs);
+    uint64_t runs = tested.parts(k, key_length, in, n, out, t, mode, t, first, second);
+    expect_output(mode, n, first, out, t, runs);
     free(k);
     free(in);
     free(out);
 }
 
-/* The MAC and both hashes of messages whose parts are short. */
+/* MACs with tags of three lengths and both hashes of messages whose parts are short. */
 static void parts_in_place(void) {
     for (size_t first = 0; first <= 33; first++) {
         for (size_t second = 0; second <= 9; second++) {
             for (size_t rest = 0; rest <= 5; rest += 5) {
-                for (size_t i = 0; i < MODES; i++) fed_in_parts(modes[i], first, second, rest);
+                for (size_t i = 0; i < OUTPUTS; i++) fed_in_parts(outputs[i].mode, outputs[i].length, first, second, rest);
             }
         }
+    }
+}
+
+/* Tag lengths that no ticket has: the open is refused, and nothing is written. */
+static void refused_tag_lengths(void) {
+    static const uint32_t lengths[] = {0, 7, 17, 255, 256 + 8, UINT32_MAX};
+    for (size_t i = 0; i < sizeof lengths / sizeof *lengths; i++) {
+        uint8_t *k = secret(key, 16), *in = secret(message, 40), *out = secret(message, 7);
+        uint64_t runs = tested.parts(k, 16, in, 40, out, 7, MAC, lengths[i], 8, 3);
+        expect(marked(&runs, sizeof runs, PUBLIC), "a refusal depends on a secret", lengths[i], 0);
+        reveal(out, 7);
+        expect(runs == 0 && memcmp(out, message, 7) == 0, "refusal of a tag length", lengths[i], 0);
+        free(k);
+        free(in);
+        free(out);
     }
 }
 
@@ -301,6 +318,7 @@ static const struct {
     {"sponges", sponges},
     {"feeds", feeds},
     {"parts_in_place", parts_in_place},
+    {"refused_tag_lengths", refused_tag_lengths},
 };
 
 static const struct {

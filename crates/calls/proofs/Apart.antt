@@ -44,7 +44,7 @@ abbrev idle : Act
 idle = record { lent = []; further = λ s. []; after = λ e. e; answer = λ e. counted 0; buffer = λ e. [] }
 
 abbrev actOf : Call → Act
-actOf (Open mode key length) = idle
+actOf (Open mode key tagLength) = idle
 actOf (Feed t bytes) =
     record { lent = []; further = λ s. feedOwn s bytes; after = afterFeed bytes; answer = λ e. counted (runsOf (afterFeed bytes e)); buffer = λ e. [] }
 actOf (Draw t buffer place count) =
@@ -69,7 +69,7 @@ actOf Sum = idle
 -- an entry keeps its number
 keeps : (c : Call) (e : Entry) → actOf c .after e .number ≡ e .number
 unfolding afterFeed afterDraw afterClose
-keeps (Open mode key length) e = refl
+keeps (Open mode key tagLength) e = refl
 keeps (Feed t bytes) e = refl
 keeps (Draw t buffer place count) e = refl
 keeps (Check t tag) e = refl
@@ -93,7 +93,7 @@ onMachine a t m = checked (refuse m (a .lent)) (checksOf a (standingOf t m)) (st
 -- a call that names t is its act on t
 names-act : (t : ℕ) (c : Call) (m : Machine) → names t c ≡ true → machine c m ≡ onMachine (actOf c) t m
 unfolding machine feedMachine drawMachine checkMachine closeMachine ticketChecks feedChecks drawChecks checkChecks afterDraw
-names-act t (Open mode key length) m h = absurd (false≢true h)
+names-act t (Open mode key tagLength) m h = absurd (false≢true h)
 names-act t (Feed u bytes) m h = ap (λ (v : ℕ). machine (Feed v bytes) m) (eqb-true u t h)
 names-act t (Draw u buffer place count) m h = ap (λ (v : ℕ). machine (Draw v buffer place count) m) (eqb-true u t h)
 names-act t (Check u tag) m h = ap (λ (v : ℕ). machine (Check v tag) m) (eqb-true u t h)

@@ -5,7 +5,7 @@ use mathlib.Core.Path.{_≡_, refl, sym, _∙_}
 use mathlib.Core.Logic.{_≢_}
 use mathlib.Core.List.{List, _++_}
 use Prim.Native.Nat.{ℕ, _≤_}
-use borrow.Author.Tests.{ltb-false, eq-eqb, ne-eqb}
+use borrow.Author.Tests.{ltb-false, ne-eqb}
 use lib.Dec.{ltb}
 use Rattle.mode.specs.declared.Mode.{Mode}
 use Rattle.mode.specs.declared.Named.{Named}
@@ -44,7 +44,7 @@ second-false false b h = h
 pub tagged : (n tagLength : ℕ) (mode : Mode) → named n tagLength ≡ Is mode → wrongTag (Is mode) tagLength ≡ false → Tagged mode
 tagged n tagLength mode h pass two =
     rw (length-kept n tagLength mode h two)
-    (ltb-false _ _ (second-false (ltb tagLength shortestTag) (ltb longestTag tagLength) (rw (eq-eqb (numberOf mode) 2 two) at pass)))
+    (ltb-false _ _ (second-false (ltb tagLength shortestTag) (ltb longestTag tagLength) (rw two at pass)))
 
 -- in every other mode the checks are the same for any tag length
 pub checks-ignore : (n a b : ℕ) → n ≢ 2 → (key : List ℕ) (issued : ℕ) (full : Bool)

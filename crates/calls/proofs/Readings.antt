@@ -57,7 +57,7 @@ readCall c r x =
 
 issue-step : (i j : Issue) (c : Call) → orElse i (issueBy c j) ≡ orElse (orElse i (issueBy c unissued)) j
 issue-step (issuedBy mode key) j c = refl
-issue-step unissued j (Open mode key length) = refl
+issue-step unissued j (Open mode key tagLength) = refl
 issue-step unissued j (Feed t bytes) = refl
 issue-step unissued j (Draw t buffer place count) = refl
 issue-step unissued j (Check t tag) = refl

@@ -51,8 +51,8 @@ module _ {S : Type 0} (run : Call → S → Step S) (empty : S) where
   abbrev pub exchanges : ℕ → List Call → List Event
   exchanges t calls = naming t (afterIssue t (transcript calls))
 
-  -- Tickets stand apart. In two lists ticket t, by that number in both, was issued for the same mode, with its tag length, and the same key, and the calls that name it from then on are the
-  -- same, in the same order: then they get the same answers and the same buffers, whatever else the lists hold.
+  -- Tickets stand apart. In two lists ticket t, by that number in both, was issued for the same mode, with its tag length, and the same key, and the calls that name it
+  -- from then on are the same, in the same order: then they get the same answers and the same buffers, whatever else the lists hold.
   abbrev pub Apart : Type 0
   Apart =
       (calls others : List Call) (t : ℕ) (mode : Named) (key : List ℕ)

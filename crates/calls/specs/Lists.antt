@@ -14,7 +14,7 @@ use Rattle.calls.specs.Call.{Call, Open, Feed, Draw, Check, Close, Sum, 
 
 -- whether a call is on ticket t: an open is on the ticket that it gave, a sum on none
 abbrev pub concerns : ℕ → Call → Response → Bool
-concerns t (Open mode key length) r = eqb (r .answer .ticket) t
+concerns t (Open mode key tagLength) r = eqb (r .answer .ticket) t
 concerns t (Feed u bytes) r = eqb u t
 concerns t (Draw u buffer place count) r = eqb u t
 concerns t (Check u tag) r = eqb u t
@@ -27,7 +27,7 @@ isOn t e = accepted (e .response .answer) && concerns t (e .call) (e .response)
 
 -- the bytes that it feeds, if it is a feed
 abbrev pub fedBy : Call → List ℕ
-fedBy (Open mode key length) = []
+fedBy (Open mode key tagLength) = []
 fedBy (Feed t bytes) = bytes
 fedBy (Draw t buffer place count) = []
 fedBy (Check t tag) = []
@@ -36,7 +36,7 @@ fedBy Sum = []
 
 -- the bytes that it wrote, if it is a draw: count bytes from place on
 abbrev pub drawnBy : Call → Response → List ℕ
-drawnBy (Open mode key length) r = []
+drawnBy (Open mode key tagLength) r = []
 drawnBy (Feed t bytes) r = []
 drawnBy (Draw t buffer place count) r = take count (drop place (r .buffer))
 drawnBy (Check t tag) r = []
@@ -45,7 +45,7 @@ drawnBy Sum r = []
 
 -- a draw or a check ends feeding
 abbrev pub endsFeeding : Call → Bool
-endsFeeding (Open mode key length) = false
+endsFeeding (Open mode key tagLength) = false
 endsFeeding (Feed t bytes) = false
 endsFeeding (Draw t buffer place count) = true
 endsFeeding (Check t tag) = true
@@ -54,13 +54,13 @@ endsFeeding Sum = false
 
 -- ---- a ticket in the list
 
--- how a ticket was issued: by an open that named this mode, which has the tag length in it, and this key; or not at all
+-- how a ticket was issued: by an open that named this mode, which has mode 2's tag length in it, and this key; or not at all
 pub data Issue : Type 0 where
   unissued : Issue
   issuedBy : (mode : Named) (key : List ℕ) → Issue
 
 abbrev pub issueBy : Call → Issue → Issue
-issueBy (Open mode key length) otherwise = issuedBy (named mode length) key
+issueBy (Open mode key tagLength) otherwise = issuedBy (named mode tagLength) key
 issueBy (Feed t bytes) otherwise = otherwise
 issueBy (Draw t buffer place count) otherwise = otherwise
 issueBy (Check t tag) otherwise = otherwise
@@ -98,7 +98,7 @@ runCount t es = lastRuns t 0 es
 -- ---- the tickets of the list, in its order
 
 abbrev pub givenBy : Call → Response → List ℕ
-givenBy (Open mode key length) r = r .answer .ticket ∷ []
+givenBy (Open mode key tagLength) r = r .answer .ticket ∷ []
 givenBy (Feed t bytes) r = []
 givenBy (Draw t buffer place count) r = []
 givenBy (Check t tag) r = []
@@ -112,7 +112,7 @@ tickets (e ∷ es) = cond (accepted (e .response .answer)) (givenBy (e .call) (e
 -- ---- the calls on a ticket, once it is issued
 
 abbrev pub opens : Call → Bool
-opens (Open mode key length) = true
+opens (Open mode key tagLength) = true
 opens (Feed t bytes) = false
 opens (Draw t buffer place count) = false
 opens (Check t tag) = false
@@ -126,7 +126,7 @@ afterIssue t (e ∷ es) = cond (isOn t e && opens (e .call)) es (afterIssue t es
 
 -- a call that names ticket t, accepted or refused
 abbrev pub names : ℕ → Call → Bool
-names t (Open mode key length) = false
+names t (Open mode key tagLength) = false
 names t (Feed u bytes) = eqb u t
 names t (Draw u buffer place count) = eqb u t
 names t (Check u tag) = eqb u t

@@ -1,7 +1,7 @@
 -- What sealing and judging come to: a sealed frame passes, a frame passes exactly where its tag is its body's MAC, and what is refused changes nothing.
 -- Assumes nothing.
 use mathlib.Core.Bool.{true, false}
-use mathlib.Core.Path.{_≡_, sym, ap, _∙_}
+use mathlib.Core.Path.{_≡_, refl, sym, ap, _∙_}
 use mathlib.Core.Logic.{_≢_}
 use mathlib.Core.List.{List}
 use Prim.Native.Nat.{ℕ, _+_, _≤_, _<_}
@@ -14,7 +14,7 @@ use Rattle.checks.specs.Equality.{same}
 use Rattle.checks.proofs.Equality.{equal-same, same-equal}
 use Rattle.checks.proofs.Buffers.{length-written, read-written, before-written, after-written}
 use Rattle.mode.specs.declared.Mode.the-variants.{Mac}
-use Rattle.mode.specs.Mode.{row}
+use Rattle.mode.specs.Mode.{Row, row}
 use Rattle.sponge.specs.Sponge.{oneShot}
 use Rattle.frame.specs.declared.Judged.{Judged}
 use Rattle.frame.specs.Frame.{tagFor, tagIn, frameRefusal, sealAnswer, sealAfter, verifyAnswer}
@@ -42,6 +42,18 @@ refusals key frame body = (
       kept = seal-kept key frame body n (sym e) h;
       judging = verify-refused key frame body n (sym e) h;
     }
+
+-- ---- frames keep document 01's MAC
+
+-- its row in document 01's table
+abbrev documentRow : Row
+documentRow =
+    record { feedRate = 32; drawRate = 16; startWord = 0x8080_8c00_0000_0080; keyLength = 16; mostDrawn = 16; flips = true; innerRounds = 12 }
+
+-- the tag that a frame should have is that MAC's, whatever other lengths tags may have
+pub frames-keep : (key frame : List ℕ) (body : ℕ) → tagFor key frame body ≡ oneShot documentRow key (take body frame) 16
+unfolding tagFor
+frames-keep key frame body = refl
 
 -- ---- what is not refused
 

@@ -1,5 +1,5 @@
--- The law over lists of calls, and that tickets stand apart: document 01's third demand, for the hub; and what request K2 adds. The statements are those of `calls`, specs/Law.antt, over the
--- definitions that the calls promise. proofs/Law.antt proves them.
+-- The law over lists of calls, and that tickets stand apart: document 01's third demand, for the hub; and what request K2 says of tag lengths and verdicts. The statements
+-- are those of `calls`, specs/Law.antt, over the definitions that the calls promise. proofs/Law.antt proves them.
 -- Assumes nothing.
 use mathlib.Core.List.{List}
 use Rattle.calls.specs.Call.{Call}

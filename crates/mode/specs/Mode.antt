@@ -1,5 +1,6 @@
 -- The table of the modes: a mode is its row, and has a number. Rows 1 to 4 are document 01's "Four modes", rows 5 and 6 request K1's
--- ASCON-HASHA and ASCON-XOFA. In the table of start words of "Additional Modes for Ascon" (source document 004) a digit of XOFA's is missing.
+-- ASCON-HASHA and ASCON-XOFA. Row 2, the MAC's, is computed from the length of its tags in bytes (request K2); document 01's is the one for 16.
+-- In the table of start words of "Additional Modes for Ascon" (source document 004) a digit of XOFA's is missing.
 -- Assumes nothing.
 use mathlib.Core.Bool.{Bool, true, false, cond}
 use Prim.Native.Nat.{ℕ, _+_, _*_}
@@ -45,7 +46,7 @@ numberOf Xof = 4
 numberOf HashA = 5
 numberOf XofA = 6
 
--- the mode that a number names: one that is not 1 to 6 names none
+-- the mode that a number and a tag length name: a number that is not 1 to 6 names none, and only mode 2 has a tag length
 unfoldable pub named : ℕ → ℕ → Named
 named n length =
     cond (eqb n 1) (Is Prf)

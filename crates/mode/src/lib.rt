@@ -1,10 +1,11 @@
-// The modes, with the table of document 01's "Four modes" and request K1's two rows as associated constants. A column of the table is a method.
+// The modes, with the table of document 01's "Four modes" and request K1's two rows as associated constants. A column of the table is a method; the MAC's start word and
+// limit are computed from the length of its tags (request K2).
 ghost use mathlib.Core.Path.{_≡_};
 ghost use Rattle.mode.specs.Mode.{numberOf, named, numberNamed, modeNumber, row};
 
 pub enum Mode {
     Prf,
-    // with the length of its tags in bytes
+    // The length of its tags, in bytes. The hub opens it with 8 to 16.
     Mac(u8),
     Hash,
     Xof,
@@ -27,7 +28,7 @@ impl Mode {
 
     pub const PRF_START: u64 = 0x8080_8c00_0000_0000;
 
-    // The length of the tag in bits is added.
+    // With the length of its tags in bits in the low byte.
     pub const MAC_START: u64 = 0x8080_8c00_0000_0000;
 
     pub const HASH_START: u64 = 0x0040_0c00_0000_0100;
@@ -68,7 +69,7 @@ impl Mode {
         }
     }
 
-    // The mode that a number names. A number that is not 1 to 6 names none.
+    // The mode that a number and a tag length name. A number that is not 1 to 6 names none; only mode 2 has a tag length.
     pub fn of_number(number: u32, length: u8) -> Named
         ensures number { λ r. ⌜ numberNamed r ≡ modeNumber number ⌝ }
         ensures named { λ r. ⌜ r ≡ named number length ⌝ }
@@ -140,7 +141,7 @@ impl Mode {
         }
     }
 
-    // At most so many bytes are drawn in all. The hub holds its tickets to it; a record does not know it.
+    // At most so many bytes are drawn in all, of the MAC its tag. The hub holds its tickets to it; a record does not know it.
     pub fn most_drawn(self) -> usize
         ensures { λ r. ⌜ r ≡ row self .mostDrawn ⌝ }
     {

@@ -39,8 +39,8 @@ impl Record {
         }
     }
 
-    // The record of a ticket just opened: the start word, the key and zeros, and one run of the outer rounds. That the key has the mode's length is the caller's to
-    // test.
+    // The record of a ticket just opened: the start word, the key and zeros, and one run of the outer rounds. That the key has the mode's length, and
+    // the MAC a tag length of the paper's, is the caller's to test.
     pub fn fresh(ticket: u32, mode: Mode, key: &[u8]) -> Record
         ensures { λ r. ⌜ r ≡ spec.fresh ticket mode (now (key .entry)) ⌝ }
     {

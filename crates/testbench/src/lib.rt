@@ -57,9 +57,9 @@ fn squeeze_in_two(s: Record, out: &mut [u8], first: usize) -> Record
     begun.squeeze(&mut out[middle..])
 }
 
-// The output of a mode for a message, as much as is lent, with no limit; the answer is how many runs were made. A tag length counts in mode 2 alone, and any is taken. The message is fed and the output drawn in two
+// The output of a mode for a message, as much as is lent, with no limit; the answer is how many runs were made. The message is fed and the output drawn in two
 // parts, so that tests try splits; by the theorem on streaming the cuts make no difference, and the promise does not name them. A key of another length than
-// the mode's is cut, or filled with zeros. A number that is no mode is answered 0, and nothing is written.
+// the mode's is cut, or filled with zeros. A tag length counts in mode 2 alone, and any is taken. A number that is no mode is answered 0, and nothing is written.
 #[no_mangle]
 pub extern "C" fn testbench_sponge(
     key: &[u8],
@@ -83,7 +83,7 @@ pub extern "C" fn testbench_sponge(
     drawn.runs()
 }
 
-// Whether a tag is the MAC of a message, with tags of that length: 1, or 0. No block holds a tag of more than sixteen bytes; of a longer one the first sixteen count.
+// Whether a tag is the MAC of a message, with tags of that length, whole: 1, or 0. A block has sixteen bytes, so that where tags are to be longer, one of sixteen passes.
 #[no_mangle]
 pub extern "C" fn testbench_tag(key: &[u8], message: &[u8], tag: &[u8], tag_length: u8) -> u32
     ensures { λ r. ⌜ r ≡ tagAnswer (now (key .entry)) (now (message .entry)) «tag_length» (now (tag .entry)) ⌝ }

@@ -5,13 +5,13 @@
 extern "C" {
     fn testbench_permute_row(row: *mut u64, length: usize) -> u32;
     fn testbench_permute_chain(x0: u64, rounds: u64, times: u64) -> u64;
-    fn testbench_sponge(key: *const u8, key_length: usize, message: *const u8, message_length: usize, out: *mut u8, out_length: usize, mode: u32, cut: usize, first: usize) -> u64;
-    fn testbench_tag(key: *const u8, key_length: usize, message: *const u8, message_length: usize, tag: *const u8, tag_length: usize) -> u32;
+    fn testbench_sponge(key: *const u8, key_length: usize, message: *const u8, message_length: usize, out: *mut u8, out_length: usize, mode: u32, tag_length: u8, cut: usize, first: usize) -> u64;
+    fn testbench_tag(key: *const u8, key_length: usize, message: *const u8, message_length: usize, tag: *const u8, given: usize, tag_length: u8) -> u32;
     fn testbench_seal_runs(key: *const u8, key_length: usize, frame: *mut u8, frame_length: usize, body: usize) -> u64;
     fn testbench_verify_runs(key: *const u8, key_length: usize, frame: *const u8, frame_length: usize, body: usize) -> u64;
     fn testbench_feeds_by_value(ticket: u32, bytes: *const u8, length: usize, times: usize) -> u64;
     fn testbench_feeds_in_place(ticket: u32, bytes: *const u8, length: usize, times: usize) -> u64;
-    fn testbench_parts_in_place(key: *const u8, key_length: usize, message: *const u8, message_length: usize, out: *mut u8, out_length: usize, mode: u32, first: usize, second: usize) -> u64;
+    fn testbench_parts_in_place(key: *const u8, key_length: usize, message: *const u8, message_length: usize, out: *mut u8, out_length: usize, mode: u32, tag_length: u32, first: usize, second: usize) -> u64;
     fn ascon_prf_short(key: *const u8, key_length: usize, message: *const u8, message_length: usize, out: *mut u8, out_length: usize, length: usize) -> u32;
     fn ascon_seal_frame(key: *const u8, key_length: usize, frame: *mut u8, frame_length: usize, body: usize) -> u32;
     fn ascon_verify_frame(key: *const u8, key_length: usize, frame: *const u8, frame_length: usize, body: usize) -> u32;
@@ -29,9 +29,10 @@ pub fn permute_chain(x0: u64, rounds: u64, times: u64) -> u64 {
     unsafe { testbench_permute_chain(x0, rounds, times) }
 }
 
-/// The output of a mode for a message, as much as is lent, and the runs made: the message is fed in two parts, and the output drawn in two.
+/// The output of a mode for a message, as much as is lent, and the runs made: the message is fed in two parts, and the output drawn in two. The tag length counts in mode 2 alone.
 pub fn sponge(
     mode: u32,
+    tag_length: u8,
     key: &[u8],
     message: &[u8],
     cut: usize,
@@ -48,14 +49,15 @@ pub fn sponge(
             out.as_mut_ptr(),
             out.len(),
             mode,
+            tag_length,
             cut,
             first,
         )
     }
 }
 
-/// Whether a tag is as many first bytes of the MAC of a message: 1, or 0.
-pub fn tag(key: &[u8], message: &[u8], tag: &[u8]) -> u32 {
+/// Whether a tag is the whole MAC of a message, with tags of that length: 1, or 0.
+pub fn tag(key: &[u8], message: &[u8], tag: &[u8], tag_length: u8) -> u32 {
     // SAFETY: each pointer and the length after it are those of one slice, lent for the call alone.
     unsafe {
         testbench_tag(
@@ -65,6 +67,7 @@ pub fn tag(key: &[u8], message: &[u8], tag: &[u8]) -> u32 {
             message.len(),
             tag.as_ptr(),
             tag.len(),
+            tag_length,
         )
     }
 }
@@ -81,9 +84,11 @@ pub fn feeds_in_place(ticket: u32, bytes: &[u8], times: usize) -> u64 {
     unsafe { testbench_feeds_in_place(ticket, bytes.as_ptr(), bytes.len(), times) }
 }
 
-/// The output of a ticket of a mode for a message, as much as is lent, and the runs made: the message is fed in three parts, in place. 0 where it is refused.
+/// The output of a ticket of a mode for a message, as much as is lent, and the runs made: the message is fed in three parts, in place. The tag length counts in mode 2 alone. 0 where it is
+/// refused.
 pub fn parts_in_place(
     mode: u32,
+    tag_length: u32,
     key: &[u8],
     message: &[u8],
     first: usize,
@@ -100,6 +105,7 @@ pub fn parts_in_place(
             out.as_mut_ptr(),
             out.len(),
             mode,
+            tag_length,
             first,
             second,
         )

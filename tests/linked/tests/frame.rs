@@ -44,7 +44,7 @@ fn every_body_length_at_every_offset() {
     let key: [u8; 16] = numbers.bytes(16).try_into().unwrap();
     for body in 0..=300 {
         let content = numbers.bytes(body);
-        let tag = mac(&key, &content);
+        let tag = mac(&key, &content, 16);
         for lead in 0..=8 {
             for trail in [0, 1, 7, 8, 16, 33] {
                 let before = numbers.bytes(lead + body + 16 + trail);
@@ -87,7 +87,7 @@ fn long_bodies() {
         assert_eq!(seal_runs(&KEY, &mut frame, body), runs);
         assert_eq!(verify_runs(&KEY, &frame, body), runs);
         assert_eq!(frame[..body], before[..body]);
-        assert_eq!(frame[body..body + 16], mac(&KEY, &before[..body]));
+        assert_eq!(frame[body..body + 16], mac(&KEY, &before[..body], 16));
         assert_eq!(frame[body + 16..], before[body + 16..]);
         assert_eq!(verify(&KEY, &frame, body), PASSES);
         for damaged in [0, body / 2, body - 1, body, body + 15] {

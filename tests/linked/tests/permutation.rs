@@ -1,7 +1,7 @@
 //! The linked permutation against the printed state, the outside vectors and the reference, and its refusals.
 use linked::{permute_chain, permute_row};
 use reference::numbers::Numbers;
-use reference::{assert_vectors, permute, vectors, HASH};
+use reference::{assert_vectors, mac_lengths, permute, vectors, HASH};
 
 /// Permutes a state by the linked function, which makes twelve rounds.
 fn permute_linked(state: &mut [u64; 5]) {
@@ -37,6 +37,7 @@ fn the_vectors() {
         _ => permute(state, rounds),
     };
     assert_vectors(permute, &vectors());
+    assert_vectors(permute, &mac_lengths());
 }
 
 #[test]

@@ -12,5 +12,6 @@ mod vectors;
 pub use permutation::permute;
 pub use sponge::{mac, prf_short, sponge, Mode, HASH, HASHA, MAC, MODES, PRF, XOF, XOFA};
 pub use vectors::{
-    assert_vectors, counting, published, short_vectors, vectors, ShortVector, Vector, KEY,
+    assert_vectors, counting, mac_lengths, published, short_vectors, vectors, ShortVector, Vector,
+    KEY,
 };

@@ -36,9 +36,10 @@ pub fn parse(line: &str) -> Line {
 
 fn parse_call(fields: &[&str]) -> Call {
     match *fields {
-        ["open", mode, key] => Call::Open {
+        ["open", mode, key, tag_length] => Call::Open {
             mode: number(mode),
             key: bytes(key),
+            tag_length: number(tag_length),
         },
         ["feed", ticket, fed] => Call::Feed {
             ticket: number(ticket),
@@ -180,6 +181,7 @@ mod tests {
     /// Each line is read, and with a part of it in another form it is not.
     #[test]
     fn no_other_form_is_read() {
+        const OPEN: &str = "open 3 - 16 = refusal 0 ticket 1 runs 1 passed 0 sum 0 -";
         const DRAW: &str = "draw 1 ff00 0 1 = refusal 0 ticket 0 runs 2 passed 0 sum 0 7300";
         const NONE: &str = "draw 1 - 0 0 = refusal 0 ticket 0 runs 2 passed 0 sum 0 -";
         const FEED: &str = "feed 1 0a = refusal 0 ticket 0 runs 1 passed 0 sum 0 -";
@@ -188,6 +190,12 @@ mod tests {
         for (line, part, forms) in [
             ("empty", "empty", "/Empty/ empty/empty /empty\r/message 00"),
             ("often 1 0a 2", " 0a 2", " 0a/ 0a 02/ 0a 2 -/ 0a  2/ 2 0a"),
+            (
+                OPEN,
+                "- 16",
+                "-/16/-  16/- 016/- +16/- -1/- 0x10/- 4294967296",
+            ),
+            (OPEN, "- 16", "16 -/- 16 -/- - 16/- 16 16/- -"),
             (DRAW, "ff00", "FF00/ff0/ff000/+f00/-f00/[255 0]/ff 00//-"),
             (DRAW, " 0 1", " 0/ 0 01/ +0 1/ 0 -1/ 0  1/ 0 1 1/ 0 x"),
             (DRAW, "= refusal", "refusal/ = refusal/== refusal/= sum"),

@@ -1,11 +1,13 @@
-//! Document 01's plain machine, written from its paragraph and its lists of checks alone: it holds what was said, and works every output out from the beginning.
+//! Document 01's plain machine, with the changes K1 and K2, written from its paragraph and its lists of checks alone: it holds what was said, and works every output out from the beginning.
 use crate::{permute, sponge, Mode, MODES};
+use std::ops::RangeInclusive;
 
 #[derive(Clone, Debug, PartialEq)]
 pub enum Call {
     Open {
         mode: u32,
         key: Vec<u8>,
+        tag_length: u32,
     },
     Feed {
         ticket: u32,
@@ -40,7 +42,7 @@ pub struct Answer {
 
 struct Entry {
     open: bool,
-    mode: &'static Mode,
+    mode: Mode,
     key: [u8; 16],
     fed: Vec<u8>,
     feeding: bool,
@@ -57,8 +59,11 @@ pub struct Machine {
 /// How much may be fed to a ticket.
 pub const MOST_FED: usize = 16_777_216;
 
+/// The tag lengths that an open in mode 2 may name.
+pub const TAG_LENGTHS: RangeInclusive<usize> = 8..=16;
+
 impl Entry {
-    fn new(mode: &'static Mode, key: &[u8]) -> Entry {
+    fn new(mode: Mode, key: &[u8]) -> Entry {
         let mut padded = [0; 16];
         padded[..key.len()].copy_from_slice(key);
         Entry {
@@ -77,7 +82,7 @@ impl Entry {
     fn output(&mut self, length: usize) -> &[u8] {
         if self.output.len() < length {
             let more = length.max(self.fed.len() / 16).next_power_of_two();
-            self.output = sponge(permute, self.mode, &self.key, &self.fed, more).0;
+            self.output = sponge(permute, &self.mode, &self.key, &self.fed, more).0;
         }
         &self.output[..length]
     }
@@ -130,7 +135,7 @@ impl Entry {
         if self.mode.number != 2 {
             return Err(18);
         }
-        if !(8..=16).contains(&tag.len()) {
+        if tag.len() != self.mode.tag_length() {
             return Err(4);
         }
         self.feeding = false;
@@ -163,7 +168,11 @@ impl Machine {
     /// The answer to a call that no check refuses, or the number of the first that does.
     fn accept(&mut self, call: &Call) -> Result<Answer, u32> {
         match call {
-            Call::Open { mode, key } => self.open(*mode, key),
+            Call::Open {
+                mode,
+                key,
+                tag_length,
+            } => self.open(*mode, key, *tag_length),
             Call::Feed { ticket, bytes } => self.entry(*ticket)?.feed(bytes),
             Call::Draw {
                 ticket,
@@ -188,10 +197,17 @@ impl Machine {
         }
     }
 
-    fn open(&mut self, mode: u32, key: &[u8]) -> Result<Answer, u32> {
-        let mode = *MODES.iter().find(|m| m.number == mode).ok_or(1u32)?;
+    fn open(&mut self, mode: u32, key: &[u8], tag_length: u32) -> Result<Answer, u32> {
+        let mut mode = **MODES.iter().find(|m| m.number == mode).ok_or(1u32)?;
         if key.len() != if mode.keyed { 16 } else { 0 } {
             return Err(2);
+        }
+        if mode.number == 2 {
+            let tag_length = tag_length as usize;
+            if !TAG_LENGTHS.contains(&tag_length) {
+                return Err(21);
+            }
+            mode = Mode::mac(tag_length);
         }
         if self.entries.len() == 4_294_967_295 {
             return Err(14);

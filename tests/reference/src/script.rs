@@ -1,4 +1,4 @@
-//! Document 01's script program, written from its section alone: lines are read into calls, the plain machine answers them, and the answers are written out.
+//! Document 01's script program, with the tag lengths of change request K2, written from its section alone: lines are read into calls, the plain machine answers them, and the answers are written out.
 use crate::machine::{Answer, Call, Machine};
 
 const NAMES: &[u8] = b"call number bytes";
@@ -47,10 +47,16 @@ fn parse(line: &[u8]) -> Option<Call> {
     };
     let number = parse_number(number)?;
     match (name, number) {
-        (b"open", mode) => Some(Call::Open {
-            mode,
-            key: parse_bytes(field)?,
-        }),
+        (b"open", mode) => {
+            let mut key = parse_bytes(field)?;
+            // In mode 2 the last byte is the tag length. A field of no bytes has none, and a key of no bytes, which is refused before any tag length.
+            let last = if mode == 2 { key.pop() } else { None };
+            Some(Call::Open {
+                mode,
+                key,
+                tag_length: last.map_or(0, u32::from),
+            })
+        }
         (b"feed", ticket) => Some(Call::Feed {
             ticket,
             bytes: parse_bytes(field)?,
@@ -149,6 +155,28 @@ mod tests {
         let input = "call number bytes\nopen 3 -\nfeed 1 0102030405060708\ndraw 1 0000\nclose 1 -\nfeed 1 09\nsum 0 -\n";
         let printed = "answer number bytes\nok 1 -\nok 2 -\nok 3 -\nok 3 -\nno 12 -\nok 3 -\n";
         assert_eq!(run(input.as_bytes()), printed.as_bytes());
+    }
+
+    /// The last byte of an open in mode 2 is the tag length; in other modes all bytes are the key.
+    #[test]
+    fn the_length_byte() {
+        for (line, key, tag_length) in [
+            ("open 2 0a0b0c", vec![0x0a, 0x0b], 0x0c),
+            ("open 2 ff", vec![], 255),
+            ("open 2 -", vec![], 0),
+            ("open 1 0a0b0c", vec![0x0a, 0x0b, 0x0c], 0),
+            ("open 258 0a", vec![0x0a], 0),
+        ] {
+            let Some(Call::Open {
+                key: k,
+                tag_length: t,
+                ..
+            }) = parse(line.as_bytes())
+            else {
+                panic!("no open: {line}");
+            };
+            assert_eq!((k, t), (key, tag_length), "{line}");
+        }
     }
 
     /// Wherever the input ends: in a line, at its newline, and before any line.

@@ -3,6 +3,7 @@ use crate::permute;
 
 /// A mode of document 01 or of change request K1, by its number: the start word, both rates and the most drawn in bytes, whether it takes a key and flips a bit before
 /// the last block's run, and the rounds of every run but two: the first and the last block's have twelve.
+#[derive(Clone, Copy, Debug, PartialEq)]
 pub struct Mode {
     pub number: u32,
     pub start: u64,
@@ -24,13 +25,8 @@ pub const PRF: Mode = Mode {
     inner_rounds: 12,
 };
 
-/// ASCON-MAC, the same with 128 bits of output.
-pub const MAC: Mode = Mode {
-    number: 2,
-    start: 0x80808c0000000080,
-    most_drawn: 16,
-    ..PRF
-};
+/// ASCON-MAC with tags of 128 bits, as frames have them.
+pub const MAC: Mode = Mode::mac(16);
 
 /// ASCON-HASH: "Additional Modes for Ascon" (source document 004), its table of start values.
 pub const HASH: Mode = Mode {
@@ -70,6 +66,25 @@ pub const XOFA: Mode = Mode {
 pub const MODES: [&Mode; 6] = [&PRF, &MAC, &HASH, &XOF, &HASHA, &XOFA];
 
 impl Mode {
+    /// ASCON-MAC with tags of so many bytes: as the PRF, with the tag's length in bits in the start value, and no more output. Change request K2 has those of 8 to 16.
+    pub const fn mac(tag_length: usize) -> Mode {
+        Mode {
+            number: 2,
+            start: PRF.start + 8 * tag_length as u64,
+            most_drawn: tag_length,
+            ..PRF
+        }
+    }
+
+    /// The tag length that an open names. Other modes have none: there it is 0, which mode 2 would refuse.
+    pub fn tag_length(&self) -> usize {
+        if self.number == 2 {
+            self.most_drawn
+        } else {
+            0
+        }
+    }
+
     /// What an open names: the key, or nothing where the mode takes none.
     pub fn given<'a>(&self, key: &'a [u8]) -> &'a [u8] {
         if self.keyed {
@@ -77,6 +92,15 @@ impl Mode {
         } else {
             &[]
         }
+    }
+
+    /// The bytes of an open in a script: what it names, and of a MAC the tag length after it.
+    pub fn opened_by(&self, key: &[u8]) -> Vec<u8> {
+        let mut bytes = self.given(key).to_vec();
+        if self.number == 2 {
+            bytes.push(self.tag_length() as u8);
+        }
+        bytes
     }
 
     /// Document 01's formula for the run count: with so many bytes fed and, once feeding has ended, so many drawn.
@@ -190,7 +214,7 @@ pub fn prf_short(
     ends.map(|(s, k)| s ^ k).collect()
 }
 
-/// The MAC of a message: the tag of a frame whose body it is.
-pub fn mac(key: &[u8; 16], message: &[u8]) -> Vec<u8> {
-    sponge(permute, &MAC, key, message, 16).0
+/// The MAC of a message, with tags of so many bytes. With those of 16 it is the tag of a frame whose body is the message.
+pub fn mac(key: &[u8; 16], message: &[u8], tag_length: usize) -> Vec<u8> {
+    sponge(permute, &Mode::mac(tag_length), key, message, tag_length).0
 }

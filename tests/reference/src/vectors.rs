@@ -1,12 +1,14 @@
 //! The outside vectors, and those that Ascon's authors print.
+use crate::machine::TAG_LENGTHS;
 use crate::{sponge, Mode, HASH, HASHA, MAC, MODES, PRF, XOF, XOFA};
 
 /// The key of the vectors: 00 01 .. 0f.
 pub const KEY: [u8; 16] = [0, 1, 2, 3, 4, 5, 6, 7, 8, 9, 10, 11, 12, 13, 14, 15];
 
 /// An outside vector: a mode, the length of a message whose bytes count up from 0, and the output.
+#[derive(Clone)]
 pub struct Vector {
-    pub mode: &'static Mode,
+    pub mode: Mode,
     pub length: usize,
     pub output: Vec<u8>,
 }
@@ -52,16 +54,16 @@ fn lines(text: &str) -> Vec<(&str, Vec<&str>)> {
     lines
 }
 
-/// The mode of a name; none for the short function.
-fn mode(name: &str) -> Option<&'static Mode> {
+/// The mode of a name; none for the short function, and for the MAC with tags of many lengths.
+fn mode(name: &str) -> Option<Mode> {
     match name {
-        "hash" => Some(&HASH),
-        "xof" => Some(&XOF),
-        "hasha" => Some(&HASHA),
-        "xofa" => Some(&XOFA),
-        "prf" => Some(&PRF),
-        "mac" => Some(&MAC),
-        "prf_short" => None,
+        "hash" => Some(HASH),
+        "xof" => Some(XOF),
+        "hasha" => Some(HASHA),
+        "xofa" => Some(XOFA),
+        "prf" => Some(PRF),
+        "mac" => Some(MAC),
+        "prf_short" | "mac_lengths" => None,
         other => panic!("no function has the name {other}"),
     }
 }
@@ -85,6 +87,26 @@ pub fn vectors() -> Vec<Vector> {
         let of_mode = vectors.iter().filter(|v| v.mode.number == mode.number);
         assert_eq!(of_mode.count(), 139, "mode {}", mode.number);
     }
+    vectors
+}
+
+/// The outside vectors of the MAC with tags of every length that an open may name: the lengths of message and tag, and the tag.
+pub fn mac_lengths() -> Vec<Vector> {
+    let lines = lines(OUTSIDE).into_iter();
+    let vectors: Vec<Vector> = lines
+        .filter(|(name, _)| *name == "mac_lengths")
+        .map(|(_, fields)| Vector {
+            mode: Mode::mac(fields[1].parse().expect("a length")),
+            length: fields[0].parse().expect("a length"),
+            output: unhex(fields[2]),
+        })
+        .collect();
+    for length in TAG_LENGTHS {
+        let tags = vectors.iter().filter(|v| v.mode.tag_length() == length);
+        assert!(tags.clone().all(|v| v.output.len() == length));
+        assert_eq!(tags.count(), 15, "tags of {length} bytes");
+    }
+    assert_eq!(vectors.len(), 9 * 15);
     vectors
 }
 
@@ -112,11 +134,11 @@ pub fn short_vectors() -> Vec<ShortVector> {
 pub fn assert_vectors(permute: impl Fn(&mut [u64; 5], usize), vectors: &[Vector]) {
     for vector in vectors {
         let (message, length) = (counting(vector.length), vector.output.len());
-        let (output, _) = sponge(&permute, vector.mode, &KEY, &message, length);
+        let (output, _) = sponge(&permute, &vector.mode, &KEY, &message, length);
         let mode = vector.mode.number;
         assert_eq!(
             output, vector.output,
-            "mode {mode}, {} bytes",
+            "mode {mode}, {} bytes, output of {length}",
             vector.length
         );
     }
@@ -137,7 +159,7 @@ pub(crate) fn unhex(digits: &str) -> Vec<u8> {
 #[cfg(test)]
 mod tests {
     use super::*;
-    use crate::{permute, prf_short};
+    use crate::{mac, permute, prf_short};
 
     #[test]
     fn the_vectors() {
@@ -147,6 +169,36 @@ mod tests {
     #[test]
     fn the_published_vectors() {
         assert_vectors(permute, &published());
+    }
+
+    #[test]
+    fn the_vectors_of_tag_lengths() {
+        assert_vectors(permute, &mac_lengths());
+    }
+
+    /// The tag length is in the start word: a tag is not a longer one that was cut.
+    #[test]
+    fn no_tag_is_a_longer_one_cut() {
+        assert_eq!(Mode::mac(8).start, 0x80808c0000000040);
+        for message in [0, 1, 31, 32, 33, 100].map(counting) {
+            let tags = TAG_LENGTHS.map(|length| mac(&KEY, &message, length));
+            let tags: Vec<Vec<u8>> = tags.collect();
+            for (i, short) in tags.iter().enumerate() {
+                let longer = &tags[i + 1..];
+                assert!(longer.iter().all(|tag| !tag.starts_with(short)));
+            }
+        }
+    }
+
+    /// The lines with tags of 16 bytes are those of the MAC.
+    #[test]
+    fn tags_of_sixteen_bytes_are_the_macs() {
+        let macs = vectors();
+        for vector in mac_lengths().iter().filter(|v| v.mode == MAC) {
+            let mut same = macs.iter().filter(|v| v.mode == MAC);
+            let line = same.find(|v| v.length == vector.length);
+            assert_eq!(line.expect("a line").output, vector.output);
+        }
     }
 
     #[test]

@@ -1,11 +1,11 @@
 //! What a script reaches: each call with each of its answers, and what lies at the limits.
-use reference::machine::{Answer, Call, MOST_FED};
-use reference::MODES;
+use reference::machine::{Answer, Call, MOST_FED, TAG_LENGTHS};
+use reference::{mac, Mode, MODES};
 use std::collections::BTreeSet;
 
 /// Every answer to each call that a script can get. Out of its reach are the refusals 3 and 14.
 const ANSWERS: [(&str, &[&str]); 6] = [
-    ("open", &["ok", "no 1", "no 2", "no 13"]),
+    ("open", &["ok", "no 1", "no 2", "no 13", "no 21"]),
     ("feed", &["ok", "no 11", "no 12", "no 15", "no 16"]),
     ("draw", &["ok", "no 11", "no 12", "no 17"]),
     (
@@ -16,9 +16,16 @@ const ANSWERS: [(&str, &[&str]); 6] = [
     ("sum", &["ok"]),
 ];
 
-/// The calls that have a limit, and what may come there.
-const LIMITED: [&str; 7] = [
-    "feed", "draw 1", "draw 2", "draw 3", "draw 4", "draw 5", "draw 6",
+/// The calls that have a limit, and what may come there. A MAC's is its tag length.
+const LIMITED: [&str; 8] = [
+    "feed",
+    "draw 1",
+    "draw 2 with tags of 8",
+    "draw 2 with tags of 16",
+    "draw 3",
+    "draw 4",
+    "draw 5",
+    "draw 6",
 ];
 const AT_A_LIMIT: [&str; 4] = [
     "to the limit",
@@ -27,7 +34,22 @@ const AT_A_LIMIT: [&str; 4] = [
     "past the limit where none is left",
 ];
 
-const OTHERS: [&str; 5] = [
+const OTHERS: [&str; 20] = [
+    "open 2 with tags of 8",
+    "open 2 with tags of 9",
+    "open 2 with tags of 10",
+    "open 2 with tags of 11",
+    "open 2 with tags of 12",
+    "open 2 with tags of 13",
+    "open 2 with tags of 14",
+    "open 2 with tags of 15",
+    "open 2 with tags of 16",
+    "open 2 with too short tags",
+    "open 2 with too long tags",
+    "pass with tags of 8",
+    "pass with tags of 16",
+    "fail with a longer tag that was cut",
+    "no 4 for a tag that other tickets take",
     "open the sixteenth",
     "open in a place that served before",
     "draw after a check",
@@ -48,11 +70,24 @@ pub fn missing(reached: &BTreeSet<String>) -> Vec<String> {
     all
 }
 
+/// Of a MAC all that was fed is kept, so that a tag can be told from another one that was cut.
 struct Ticket {
-    mode: usize,
+    mode: Mode,
+    key: Vec<u8>,
+    message: Vec<u8>,
     fed: usize,
     drawn: usize,
     checked: bool,
+}
+
+impl Ticket {
+    /// A draw, by the ticket's mode and, of a MAC, by its tag length.
+    fn draw(&self) -> String {
+        match self.mode.number {
+            2 => format!("draw 2 with tags of {}", self.mode.tag_length()),
+            number => format!("draw {number}"),
+        }
+    }
 }
 
 /// Looks on while a script runs.
@@ -81,10 +116,24 @@ impl Watch {
         };
         self.reached.insert(format!("{name} {answered}"));
         match (call, answer.refusal) {
-            (Call::Open { mode, .. }, 0) => self.opened(*mode as usize),
-            (Call::Feed { ticket, bytes }, 0 | 16) => self.fed(*ticket, bytes.len()),
+            (
+                Call::Open {
+                    mode,
+                    key,
+                    tag_length,
+                },
+                0,
+            ) => self.opened(*mode as usize, key, *tag_length as usize),
+            (Call::Open { tag_length, .. }, 21) => {
+                let wrong = if *tag_length < 8 { "short" } else { "long" };
+                self.reach(&format!("open 2 with too {wrong} tags"));
+            }
+            (Call::Feed { ticket, bytes }, 0 | 16) => self.fed(*ticket, bytes),
             (Call::Draw { ticket, count, .. }, 0 | 17) => self.drawn(*ticket, *count as usize),
-            (Call::Check { ticket, .. }, 0) => self.checked(*ticket),
+            (Call::Check { ticket, tag }, 0) => self.checked(*ticket, tag, answer.passed),
+            (Call::Check { tag, .. }, 4) if TAG_LENGTHS.contains(&tag.len()) => {
+                self.reach("no 4 for a tag that other tickets take");
+            }
             (Call::Close { .. }, 0) => self.closed += 1,
             _ => (),
         }
@@ -102,9 +151,16 @@ impl Watch {
         self.reached.insert(what.to_string());
     }
 
-    fn opened(&mut self, mode: usize) {
+    fn opened(&mut self, mode: usize, key: &[u8], tag_length: usize) {
+        let mut mode = *MODES[mode - 1];
+        if mode.number == 2 {
+            mode = Mode::mac(tag_length);
+            self.reach(&format!("open 2 with tags of {tag_length}"));
+        }
         self.tickets.push(Ticket {
             mode,
+            key: key.to_vec(),
+            message: Vec::new(),
             fed: 0,
             drawn: 0,
             checked: false,
@@ -134,25 +190,22 @@ impl Watch {
         count <= left
     }
 
-    fn fed(&mut self, number: u32, count: usize) {
+    fn fed(&mut self, number: u32, bytes: &[u8]) {
         let left = MOST_FED - self.ticket(number).fed;
-        if self.at_a_limit("feed", count, left) {
-            self.ticket(number).fed += count;
+        if self.at_a_limit("feed", bytes.len(), left) {
+            let ticket = self.ticket(number);
+            ticket.fed += bytes.len();
+            if ticket.mode.number == 2 {
+                ticket.message.extend(bytes);
+            }
         }
     }
 
     fn drawn(&mut self, number: u32, count: usize) {
-        let &mut Ticket {
-            mode,
-            drawn,
-            checked,
-            ..
-        } = self.ticket(number);
-        if self.at_a_limit(
-            &format!("draw {mode}"),
-            count,
-            MODES[mode - 1].most_drawn - drawn,
-        ) {
+        let ticket = self.ticket(number);
+        let (name, checked) = (ticket.draw(), ticket.checked);
+        let left = ticket.mode.most_drawn - ticket.drawn;
+        if self.at_a_limit(&name, count, left) {
             self.ticket(number).drawn += count;
             if checked && count > 0 {
                 self.reach("draw after a check");
@@ -160,10 +213,22 @@ impl Watch {
         }
     }
 
-    fn checked(&mut self, number: u32) {
-        self.ticket(number).checked = true;
-        if self.ticket(number).drawn > 0 {
+    fn checked(&mut self, number: u32, tag: &[u8], passed: bool) {
+        let ticket = self.ticket(number);
+        ticket.checked = true;
+        // What it costs to tell a cut tag is spent on short messages alone.
+        let cut = !passed && tag.len() < 16 && ticket.message.len() < 1_000 && {
+            let key = ticket.key[..].try_into().expect("sixteen bytes");
+            mac(key, &ticket.message, 16).starts_with(tag)
+        };
+        if ticket.drawn > 0 {
             self.reach("check after a draw");
+        }
+        if passed {
+            self.reach(&format!("pass with tags of {}", tag.len()));
+        }
+        if cut {
+            self.reach("fail with a longer tag that was cut");
         }
     }
 }

@@ -15,9 +15,10 @@ pub mod random;
 /// The line of names, with which every script begins.
 pub const NAMES: &[u8] = b"call number bytes\n";
 
-/// Opens under the key 00 01 .. 0f.
+/// Opens under the key 00 01 .. 0f; MACs with tags of 16 bytes, and of 8.
 pub const OPEN_PRF: &str = "open 1 000102030405060708090a0b0c0d0e0f";
-pub const OPEN_MAC: &str = "open 2 000102030405060708090a0b0c0d0e0f";
+pub const OPEN_MAC: &str = "open 2 000102030405060708090a0b0c0d0e0f10";
+pub const OPEN_MAC_8: &str = "open 2 000102030405060708090a0b0c0d0e0f08";
 
 /// A program that has not ended by then is killed, and its test fails: after twenty seconds, or as many as the variable SCRIPT_LIMIT says.
 fn limit() -> Duration {

@@ -32,7 +32,7 @@ const CALLS: [(Text, Text); 6] = [
     ("open 3 -", "ok 3 -"),
     ("feed 1 0a", "ok 1 -"),
     ("draw 2 0000", "ok 2 -"),
-    ("check 1 0123456789abcdef", "fail 2 -"),
+    ("check 1 0123456789abcdef0123456789abcdef", "fail 2 -"),
     ("close 1 -", "ok 1 -"),
     ("sum 0 -", "ok 2 -"),
 ];
@@ -155,7 +155,11 @@ fn high_bytes(line: &str) -> impl Iterator<Item = Vec<u8>> + '_ {
 /// A call and a well-formed last field, what they give, and malformed fields beside it.
 type Field = (Text, Text, Text, &'static [Text]);
 
-const FIELDS: [Field; 19] = [
+/// Bytes of opens in mode 2, the tag length last.
+const TAGS_OF_16: Text = "000102030405060708090a0b0c0d0e0f10";
+const TAGS_OF_7: Text = "000102030405060708090a0b0c0d0e0f07";
+
+const FIELDS: [Field; 22] = [
     // Digits and pairs of digits.
     ("feed 1", "-", "ok 1 -", &["--", "-0", "00-", "_", "="]),
     ("feed 1", "00", "ok 1 -", &["0", "0/", "0-", "-00", "+0"]),
@@ -175,6 +179,10 @@ const FIELDS: [Field; 19] = [
     ("draw 1", "03ff", "no 17 -", &["03fg"]),
     ("draw 1", "0400", "no 17 -", &["0401"]),
     ("draw 9", "0400", "no 11 -", &["0401"]),
+    // The tag length is a byte of the field, in hex as all others, and no field of its own.
+    ("open 2", TAGS_OF_16, "ok 3 -", TAG_LENGTHS),
+    ("open 2", TAGS_OF_7, "no 21 -", &[NO_TAG_LENGTH]),
+    ("open 2", "-", "no 2 -", &["--", "0", "- 10", "-10"]),
     // Calls that have no bytes.
     ("close 1", "-", "ok 1 -", &["00", "--", "0", "0000"]),
     ("sum 0", "-", "ok 2 -", &["00", "--", "0", "0000"]),
@@ -185,6 +193,21 @@ const COUNTS: &[Text] = &[
     "-", "0", "00", "000", "00000", "0401", "0402", "0800", "1000", "4000", "8000", "ffff", "000g",
     "0x10", "+000", "-000", "000-", "000A", "00FF", "00000400",
 ];
+
+const TAG_LENGTHS: &[Text] = &[
+    NO_TAG_LENGTH,
+    "000102030405060708090a0b0c0d0e0f 10",
+    "000102030405060708090a0b0c0d0e0f 16",
+    "000102030405060708090a0b0c0d0e0f,10",
+    "000102030405060708090a0b0c0d0e0f0x10",
+    "000102030405060708090a0b0c0d0e0f0E",
+    "000102030405060708090a0b0c0d0e0f1g",
+    "000102030405060708090a0b0c0d0e0f010",
+    "000102030405060708090a0b0c0d0e0f-",
+];
+
+/// One digit, of two.
+const NO_TAG_LENGTH: Text = "000102030405060708090a0b0c0d0e0f8";
 
 fn of_a_field(&(call, field, answer, others): &Field) -> Vec<Pair> {
     let line = |field: &str| format!("{call} {field}");
@@ -230,6 +253,7 @@ fn too_many_bytes() -> Vec<Pair> {
     let calls = [
         ("feed 1", "ok 33 -"),
         ("check 1", "no 4 -"),
+        ("open 2", "no 2 -"),
         ("open 3", "no 2 -"),
     ];
     let of_a_call = |(call, answer)| {

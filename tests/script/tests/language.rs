@@ -1,14 +1,33 @@
 //! The script language: document 01's example, outputs and verdicts, every refusal that a short script can reach, and the ends of the input. What is expected is written out here, so that the
 //! reference is held to it too.
 use reference::script::field;
-use script::{assert_prints, assert_talk, Talk, OPEN_MAC, OPEN_PRF};
+use script::{assert_prints, assert_talk, Talk, OPEN_MAC, OPEN_MAC_8, OPEN_PRF};
 
-/// What Ascon's authors print for no bytes: the MAC under the key 00 01 .. 0f, both hashes, and both XOFs.
+/// What Ascon's authors print for no bytes: the MAC under the key 00 01 .. 0f with tags of 16 bytes, both hashes, and both XOFs.
 const MAC: &str = "eb1af688825d66bf2d53e135f9323315";
 const HASH: &str = "7346bc14f036e87ae03d0997913088f5f68411434b3cf8b54fa796a80d251f91";
 const XOF: &str = "5d4cbde6350ea4c174bd65b5b332f8408f99740b81aa02735eaefbcf0ba0339e";
 const HASHA: &str = "aecd027026d0675f9de7a8ad8ccf512db64b1edcf0b20c388a0c7cc617aaa2c4";
 const XOFA: &str = "7c10dffd6bb03be262d72fbe1b0f530013c6c4eadaabde278d6f29d579e3908d";
+
+/// The MAC of no bytes under that key with tags of 8, 9, .. bytes, of the outside vectors. None begins as a longer one does.
+const TAGS: [&str; 9] = [
+    "3dc064871d4064a2",
+    "cb8d9e9072a7f3753c",
+    "80760f1d131a4303a131",
+    "70c1bd34a13c94e447031d",
+    "0c0a1e0efd16dfd285ddfae3",
+    "920a442f25f08157be30ddc5c1",
+    "0083d6c3916b28e3c46245e75794",
+    "d78d1f2a332ac8f6d30f7953e04f13",
+    MAC,
+];
+
+/// An open in mode 2 under a key of so many bytes, with a tag length.
+fn open_mac(key: usize, tag_length: u8) -> String {
+    let key = &[0xa5; 1_024][..key];
+    format!("open 2 {}", field(&[key, &[tag_length]].concat()))
+}
 
 /// So many bytes, as a script has them.
 fn bytes(count: usize) -> String {
@@ -40,7 +59,6 @@ ok 3 -
 #[test]
 fn outputs_and_verdicts() {
     let draw = |from: usize, to: usize, runs| format!("ok {runs} {}", &HASH[2 * from..2 * to]);
-    let check = |count: usize| format!("check 2 {}", &MAC[..2 * count]);
     let mut talk = Talk::default();
     // The hash in parts, and none of it before, between and after.
     talk.line("open 3 -", "ok 1 -")
@@ -51,15 +69,13 @@ fn outputs_and_verdicts() {
         .line("draw 1 0001", draw(8, 9, 3))
         .line("draw 1 0017", draw(9, 32, 5))
         .line("draw 1 0000", "ok 5 -");
-    // The MAC: tags of each length, damaged in the first and the last bit, and drawn afterwards.
-    talk.line(OPEN_MAC, "ok 2 -");
-    for count in 8..=16 {
-        talk.line(check(count), "pass 2 -");
-    }
-    talk.line(format!("check 2 6{}", &MAC[1..]), "fail 2 -")
+    // The MAC: its tag, damaged in the first and the last bit, and drawn afterwards.
+    talk.line(OPEN_MAC, "ok 2 -")
+        .line(format!("check 2 {MAC}"), "pass 2 -")
+        .line(format!("check 2 6{}", &MAC[1..]), "fail 2 -")
         .line(format!("check 2 {}4", &MAC[..31]), "fail 2 -")
         .line("draw 2 0010", format!("ok 2 {MAC}"))
-        .line(check(16), "pass 2 -");
+        .line(format!("check 2 {MAC}"), "pass 2 -");
     // The XOF at once, and the hash and the XOF that have shorter runs: each of these counts as one, too.
     for (mode, ticket, output) in [(4, 3, XOF), (5, 4, HASHA), (6, 5, XOFA)] {
         talk.line(format!("open {mode} -"), format!("ok {ticket} -"))
@@ -74,13 +90,50 @@ fn outputs_and_verdicts() {
     talk.line("sum 0 -", "ok 22 -").assert();
 }
 
+/// A tag of each length passes on the ticket of its length, alone and whole: the first bytes of a longer one fail, and tags of other lengths are refused.
+#[test]
+fn tags_of_each_length() {
+    let mut talk = Talk::default();
+    for (tag, ticket) in TAGS.into_iter().zip(1..) {
+        let length = tag.len() / 2;
+        let open = format!("open 2 000102030405060708090a0b0c0d0e0f{length:02x}");
+        talk.line(open, format!("ok {ticket} -"));
+        for other in TAGS {
+            let (whole, cut) = (format!("check {ticket} {other}"), 2 * length);
+            if other == tag {
+                talk.line(whole, "pass 2 -");
+            } else {
+                talk.line(whole, "no 4 -");
+            }
+            if other.len() > cut {
+                talk.line(format!("check {ticket} {}", &other[..cut]), "fail 2 -");
+            }
+        }
+        talk.line(format!("draw {ticket} {length:04x}"), format!("ok 2 {tag}"))
+            .line(format!("close {ticket} -"), "ok 2 -");
+    }
+    talk.line("sum 0 -", "ok 18 -").assert();
+}
+
 #[test]
 fn refusal_1_no_mode() {
     let mut talk = Talk::default();
-    for mode in [0, 7, 8, 257, 261, 65_537, 2_147_483_651, u32::MAX] {
-        // Before 2: of no mode is any key right.
+    for mode in [
+        0,
+        7,
+        8,
+        257,
+        258,
+        261,
+        65_537,
+        65_538,
+        2_147_483_651,
+        u32::MAX,
+    ] {
+        // Before 2 and 21: of no mode is any key right, and any tag length.
         talk.line(format!("open {mode} -"), "no 1 -")
-            .line(format!("open {mode} {}", bytes(16)), "no 1 -");
+            .line(format!("open {mode} {}", bytes(16)), "no 1 -")
+            .line(format!("open {mode} {}10", bytes(16)), "no 1 -");
     }
     talk.lines(&[(OPEN_PRF, "ok 1 -"), (OPEN_MAC, "ok 2 -")])
         .lines(&[("open 3 -", "ok 3 -"), ("open 4 -", "ok 4 -")])
@@ -91,15 +144,24 @@ fn refusal_1_no_mode() {
 #[test]
 fn refusal_2_key_length() {
     let keyed: &[usize] = &[0, 1, 8, 15, 17, 32, 1024];
-    let unkeyed: &[usize] = &[1, 16, 1024];
+    let unkeyed: &[usize] = &[1, 16, 17, 1024];
     let mut talk = Talk::default();
-    for mode in 1..=6 {
-        for count in if mode <= 2 { keyed } else { unkeyed } {
+    for mode in [1, 3, 4, 5, 6] {
+        for count in if mode == 1 { keyed } else { unkeyed } {
             talk.line(format!("open {mode} {}", bytes(*count)), "no 2 -");
         }
     }
+    // In mode 2 the last byte is no byte of the key. No bytes are a key of none, and sixteen one of fifteen.
+    talk.line("open 2 -", "no 2 -")
+        .line(format!("open 2 {}", bytes(16)), "no 2 -")
+        .line("open 2 000102030405060708090a0b0c0d0e0f", "no 2 -");
+    for count in [0, 1, 8, 15, 17, 32, 1023] {
+        for tag_length in [8, 16] {
+            talk.line(open_mac(count, tag_length), "no 2 -");
+        }
+    }
     talk.line(format!("open 1 {}", bytes(16)), "ok 1 -")
-        .line(format!("open 2 {}", bytes(16)), "ok 2 -")
+        .line(open_mac(16, 16), "ok 2 -")
         .lines(&[("open 3 -", "ok 3 -"), ("open 4 -", "ok 4 -")])
         .lines(&[("open 5 -", "ok 5 -"), ("open 6 -", "ok 6 -")])
         .assert();
@@ -108,16 +170,20 @@ fn refusal_2_key_length() {
 #[test]
 fn refusal_4_tag_length() {
     let mut talk = Talk::default();
-    talk.line(OPEN_MAC, "ok 1 -");
-    for count in [0, 1, 7, 17, 32, 1024] {
-        talk.line(format!("check 1 {}", bytes(count)), "no 4 -");
+    for (length, ticket) in (8..=16).zip(1..) {
+        let check = |count| format!("check {ticket} {}", bytes(count));
+        talk.line(open_mac(16, length), format!("ok {ticket} -"));
+        let length = usize::from(length);
+        for count in (0..=17).chain([32, 264, 1024]).filter(|c| *c != length) {
+            talk.line(check(count), "no 4 -");
+        }
+        // Refused checks have not ended feeding; accepted ones do.
+        talk.line(format!("feed {ticket} -"), "ok 1 -")
+            .line(check(length), "fail 2 -")
+            .line(format!("feed {ticket} -"), "no 15 -")
+            .line(check(length - 1), "no 4 -");
     }
-    // Refused checks have not ended feeding; accepted ones do.
-    talk.line("feed 1 -", "ok 1 -")
-        .line(format!("check 1 {}", bytes(8)), "fail 2 -")
-        .line(format!("check 1 {}", bytes(16)), "fail 2 -")
-        .line("feed 1 -", "no 15 -")
-        .assert();
+    talk.assert();
 }
 
 #[test]
@@ -136,7 +202,7 @@ fn refusal_11_never_issued() {
     never(&mut talk, [0, 2, 3, u32::MAX]);
     talk.line("feed 1 00", "ok 1 -")
         .line("draw 1 0000", "ok 2 -")
-        .line(format!("check 1 {}", bytes(8)), "fail 2 -")
+        .line(format!("check 1 {}", bytes(16)), "fail 2 -")
         .line("close 1 -", "ok 2 -")
         .assert();
 }
@@ -168,9 +234,13 @@ fn refusal_13_sixteen_open() {
     }
     talk.line("open 3 -", "no 13 -")
         .line(OPEN_PRF, "no 13 -")
-        // After 1 and 2.
+        .line(OPEN_MAC_8, "no 13 -")
+        // After 1, 2 and 21.
         .line("open 7 -", "no 1 -")
         .line("open 1 -", "no 2 -")
+        .line("open 2 -", "no 2 -")
+        .line(open_mac(16, 7), "no 21 -")
+        .line(open_mac(16, 17), "no 21 -")
         .line("sum 0 -", "ok 16 -");
     // Any place serves again, with the next number: refused opens have taken none.
     for (closed, opened) in [(9, 17), (1, 18), (16, 19), (17, 20)] {
@@ -191,7 +261,7 @@ fn refusal_15_feeding_has_ended() {
         ("feed 1 00", "no 15 -"),
         (OPEN_MAC, "ok 2 -"),
         ("feed 2 00", "ok 1 -"),
-        ("check 2 0000000000000000", "fail 2 -"),
+        ("check 2 00000000000000000000000000000000", "fail 2 -"),
         ("feed 2 00", "no 15 -"),
         ("open 4 -", "ok 3 -"),
         ("draw 3 0001", "ok 2 5d"),
@@ -217,12 +287,28 @@ fn refusal_17_too_much_drawn() {
         .line("draw 1 0002", "no 17 -")
         .line("draw 1 0001", format!("ok 2 {}", &MAC[30..]))
         .lines(&[("draw 1 0001", "no 17 -"), ("draw 1 0000", "ok 2 -")]);
-    for (mode, ticket, output) in [(3, 2, HASH), (5, 3, HASHA)] {
+    talk.line(OPEN_MAC_8, "ok 2 -")
+        .lines(&[("draw 2 0009", "no 17 -"), ("draw 2 0010", "no 17 -")])
+        .line("feed 2 -", "ok 1 -")
+        .line("draw 2 0007", format!("ok 2 {}", &TAGS[0][..14]))
+        .line("draw 2 0002", "no 17 -")
+        .line("draw 2 0001", format!("ok 2 {}", &TAGS[0][14..]))
+        .lines(&[("draw 2 0001", "no 17 -"), ("draw 2 0000", "ok 2 -")]);
+    for (mode, ticket, output) in [(3, 3, HASH), (5, 4, HASHA)] {
         talk.line(format!("open {mode} -"), format!("ok {ticket} -"))
             .line(format!("draw {ticket} 0021"), "no 17 -")
             .line(format!("draw {ticket} 0020"), format!("ok 5 {output}"))
             .line(format!("draw {ticket} 0001"), "no 17 -")
             .line(format!("draw {ticket} 0000"), "ok 5 -");
+    }
+    // Each tag length is a limit of its own.
+    for (tag, ticket) in TAGS.into_iter().zip(5..) {
+        let length = tag.len() / 2;
+        let open = format!("open 2 000102030405060708090a0b0c0d0e0f{length:02x}");
+        talk.line(open, format!("ok {ticket} -"))
+            .line(format!("draw {ticket} {:04x}", length + 1), "no 17 -")
+            .line(format!("draw {ticket} {length:04x}"), format!("ok 2 {tag}"))
+            .line(format!("draw {ticket} 0001"), "no 17 -");
     }
     talk.assert();
 }
@@ -236,10 +322,30 @@ fn refusal_18_no_mac() {
             .line(format!("check {ticket} {}", bytes(16)), "no 18 -")
             // Before 4.
             .line(format!("check {ticket} -"), "no 18 -")
+            .line(format!("check {ticket} {}", bytes(8)), "no 18 -")
             .line(format!("feed {ticket} -"), "ok 1 -");
     }
     talk.line(OPEN_MAC, "ok 6 -")
         .line(format!("check 6 {}", bytes(16)), "fail 2 -")
+        .assert();
+}
+
+#[test]
+fn refusal_21_tag_length() {
+    let mut talk = Talk::default();
+    for tag_length in (0..=7).chain(17..=255) {
+        talk.line(open_mac(16, tag_length), "no 21 -")
+            // After 2.
+            .line(open_mac(15, tag_length), "no 2 -")
+            .line(open_mac(0, tag_length), "no 2 -");
+    }
+    // Refused opens have taken no number. In other modes a byte as low as this one is the key's.
+    for (tag_length, ticket) in (8..=16).zip(1..) {
+        talk.line(open_mac(16, tag_length), format!("ok {ticket} -"));
+    }
+    talk.line("open 1 0f0e0d0c0b0a09080706050403020100", "ok 10 -")
+        .line("open 3 -", "ok 11 -")
+        .line("sum 0 -", "ok 11 -")
         .assert();
 }
 

@@ -47,20 +47,22 @@ fn draw_all(talk: &mut Talk, mode: &Mode, output: &[u8], numbers: &mut Numbers) 
     }
 }
 
-/// Checks on ticket 1: of a MAC a right tag and a damaged one, each in its shortest form and whole.
-fn check(talk: &mut Talk, mode: &Mode, tag: &[u8], runs: u64) {
-    for length in [8, 16] {
-        let mut given = tag[..length].to_vec();
-        for verdict in ["pass", "fail"] {
-            let line = format!("check 1 {}", field(&given));
-            if mode.number == MAC.number {
-                talk.line(line, format!("{verdict} {runs} -"));
-            } else {
-                talk.line(line, "no 18 -");
-            }
-            given[length - 1] ^= 1;
-        }
+/// Checks on ticket 1: of a MAC a right tag and a damaged one, and the tag a byte shorter and a byte longer.
+fn check(talk: &mut Talk, mode: &Mode, output: &[u8], runs: u64) {
+    let check = |tag: &[u8]| format!("check 1 {}", field(tag));
+    if mode.number != MAC.number {
+        talk.line(check(&output[..8]), "no 18 -")
+            .line(check(&output[..16]), "no 18 -");
+        return;
     }
+    let (last, rest) = output.split_last().expect("a tag");
+    talk.line(check(output), format!("pass {runs} -"))
+        .line(
+            check(&[rest, &[last ^ 1]].concat()),
+            format!("fail {runs} -"),
+        )
+        .line(check(rest), "no 4 -")
+        .line(check(&[output, &[0]].concat()), "no 4 -");
 }
 
 /// A ticket that is fed 16,777,216 bytes, checked, drawn from as far as its mode goes, and checked again.
@@ -72,12 +74,12 @@ fn to_the_limits(mode: &Mode) {
     let [fed, all] = [0, mode.most_drawn].map(|drawn| mode.runs(MOST_FED, Some(drawn)));
 
     let mut talk = Talk::default();
-    let open = format!("open {} {}", mode.number, field(mode.given(&key)));
+    let open = format!("open {} {}", mode.number, field(&mode.opened_by(&key)));
     talk.line(open, "ok 1 -");
     feed_all(&mut talk, mode, &message, &mut numbers);
-    check(&mut talk, mode, &output[..16], fed);
+    check(&mut talk, mode, &output, fed);
     draw_all(&mut talk, mode, &output, &mut numbers);
-    check(&mut talk, mode, &output[..16], all);
+    check(&mut talk, mode, &output, all);
     // 15 before 16.
     talk.line("feed 1 -", "no 15 -")
         .line("feed 1 00", "no 15 -")
@@ -96,6 +98,11 @@ fn the_prf_to_its_limits() {
 #[test]
 fn the_mac_to_its_limits() {
     to_the_limits(&MAC);
+}
+
+#[test]
+fn the_mac_with_short_tags_to_its_limits() {
+    to_the_limits(&Mode::mac(8));
 }
 
 #[test]
@@ -126,9 +133,12 @@ fn ten_thousand_tickets() {
     let mut script = b"call number bytes\n".to_vec();
     let mut open = Vec::new();
     for ticket in 1..=TICKETS {
-        let mode = numbers.pick(&MODES);
+        let mut mode = *numbers.pick(&MODES);
+        if mode.number == MAC.number {
+            mode = Mode::mac(numbers.between(8, 16));
+        }
         let key = numbers.bytes(16);
-        let line = format!("open {} {}\n", mode.number, field(mode.given(&key)));
+        let line = format!("open {} {}\n", mode.number, field(&mode.opened_by(&key)));
         if open.len() == 16 {
             let closed = open.swap_remove(numbers.below(16));
             script.extend(format!("{line}close {closed} -\nfeed {closed} -\n").bytes());

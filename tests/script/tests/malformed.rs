@@ -82,12 +82,13 @@ fn line_1() {
     }
 }
 
-/// Every byte of a line changed to every value.
+/// Every byte of a line changed to every value; of an open, those of its tag length.
 #[test]
 fn every_byte_changed() {
-    for line in ["feed 1 0a", "draw 2 0010"] {
+    let tag_length = OPEN_MAC.len() - 2;
+    for (line, first) in [("feed 1 0a", 0), ("draw 2 0010", 0), (OPEN_MAC, tag_length)] {
         let before = opened().script;
-        for (at, byte) in (0..line.len()).flat_map(|at| (0..=255).map(move |byte| (at, byte))) {
+        for (at, byte) in (first..line.len()).flat_map(|at| (0..=255).map(move |byte| (at, byte))) {
             let mut script = [&before, line.as_bytes(), b"\nsum 0 -\n"].concat();
             script[before.len() + at] = byte;
             assert_agrees(&script);

@@ -1,13 +1,13 @@
 //! Days of random calls, which reach every answer.
 use crate::NAMES;
-use reference::machine::MOST_FED;
+use reference::machine::{MOST_FED, TAG_LENGTHS};
 use reference::numbers::Numbers;
 use reference::script::field;
-use reference::{Mode, MODES};
+use reference::{mac, Mode, MODES};
 
 /// What the writer of a script remembers of a ticket. It only guides what is written next; what is right, the reference says.
 struct Ticket {
-    mode: &'static Mode,
+    mode: Mode,
     key: [u8; 16],
     fed: Vec<u8>,
     feeding: bool,
@@ -36,12 +36,12 @@ pub fn day(numbers: &mut Numbers, lines: usize) -> Vec<u8> {
 }
 
 /// A script that begins with a ticket of a mode close to a limit: of the bytes drawn, or of the bytes fed.
-pub fn day_at_a_limit(numbers: &mut Numbers, mode: &'static Mode, drawing: bool) -> Vec<u8> {
+pub fn day_at_a_limit(numbers: &mut Numbers, mode: &Mode, drawing: bool) -> Vec<u8> {
     let mut day = Day::begin(numbers);
     day.feed = 1_024;
     let key: [u8; 16] = day.numbers.bytes(16).try_into().expect("sixteen bytes");
-    day.line_of_bytes("open", mode.number as usize, mode.given(&key));
-    day.tickets.push(Ticket::new(mode, key));
+    day.line_of_bytes("open", mode.number as usize, &mode.opened_by(&key));
+    day.tickets.push(Ticket::new(*mode, key));
     let limit = if drawing { mode.most_drawn } else { MOST_FED };
     // Few other tickets, and few calls that would end it.
     day.weights = if drawing {
@@ -61,7 +61,7 @@ pub fn day_at_a_limit(numbers: &mut Numbers, mode: &'static Mode, drawing: bool)
 }
 
 impl Ticket {
-    fn new(mode: &'static Mode, key: [u8; 16]) -> Ticket {
+    fn new(mode: Mode, key: [u8; 16]) -> Ticket {
         Ticket {
             mode,
             key,
@@ -70,6 +70,32 @@ impl Ticket {
             open: true,
             drawn: 0,
         }
+    }
+
+    /// The ticket that is opened in a mode by such bytes, if they are right.
+    fn opened_by(mode: Mode, mut bytes: Vec<u8>) -> Option<Ticket> {
+        let mode = match mode.number {
+            2 => Mode::mac(bytes.pop()?.into()),
+            _ => mode,
+        };
+        let tags = mode.number != 2 || TAG_LENGTHS.contains(&mode.tag_length());
+        let right = mode.given(&[0; 16]).len() == bytes.len() && tags;
+        bytes.resize(16, 0);
+        right.then(|| Ticket::new(mode, bytes.try_into().expect("sixteen bytes")))
+    }
+
+    /// As a rule the ticket's tag; or the first bytes of the tag of sixteen, cut to the ticket's length, or the tag or its first bytes in another length.
+    fn tag(&self, kind: usize, other: usize) -> Vec<u8> {
+        let own = self.mode.tag_length();
+        let (of, length) = match kind {
+            0 => (16, own),
+            1 => (other, other),
+            2 => (own, other.min(own)),
+            _ => (own, own),
+        };
+        let mut tag = mac(&self.key, &self.fed, of);
+        tag.truncate(length);
+        tag
     }
 }
 
@@ -130,22 +156,42 @@ impl Day<'_> {
     }
 
     fn open(&mut self) {
-        let mode = self.numbers.pick(&MODES);
-        let right = mode.given(&[0; 16]).len();
-        let (mut number, mut key) = (mode.number as usize, self.numbers.bytes(right));
+        let mut mode = *self.numbers.pick(&MODES);
+        if mode.number == 2 {
+            let any = self.numbers.between(8, 16);
+            mode = Mode::mac(self.numbers.pick(&[8, 16, any, any]));
+        }
+        let mut number = mode.number as usize;
+        let mut bytes = mode.opened_by(&self.numbers.bytes(16));
         if self.is_wrong() {
-            let length = self.numbers.pick(&[0, 1, 8, 15, 16, 17, 32, 1_024]);
-            key = self.numbers.bytes(length);
+            bytes = self.wrong_bytes(&mode, bytes);
         }
         if self.is_wrong() {
-            number = self.numbers.pick(&[0, 7, 257, 65_537, 4_294_967_295]);
+            number = self.numbers.pick(&[0, 7, 257, 258, 65_537, 4_294_967_295]);
         }
-        self.line_of_bytes("open", number, &key);
+        self.line_of_bytes("open", number, &bytes);
         let open = self.tickets.iter().filter(|t| t.open).count();
-        if number == mode.number as usize && key.len() == right && open < 16 {
-            key.resize(16, 0);
-            let key = key.try_into().expect("sixteen bytes");
-            self.tickets.push(Ticket::new(mode, key));
+        if number == mode.number as usize && open < 16 {
+            self.tickets.extend(Ticket::opened_by(mode, bytes));
+        }
+    }
+
+    /// The bytes of an open with a key of another length, or in mode 2 with another tag length, which may be a right one, or without one.
+    fn wrong_bytes(&mut self, mode: &Mode, mut bytes: Vec<u8>) -> Vec<u8> {
+        // With a tag length after it the longest is as long as a field may be.
+        let length = self.numbers.pick(&[0, 1, 8, 15, 16, 17, 32, 1_023]);
+        let key = self.numbers.bytes(length);
+        let Some(last) = bytes.pop().filter(|_| mode.number == 2) else {
+            return key;
+        };
+        let any = self.numbers.bytes(1)[0];
+        let wrong = self.numbers.pick(&[0, 1, 7, 17, 18, 24, 255, any]);
+        match self.numbers.below(6) {
+            0 => [&key[..], &[last]].concat(),
+            1 => [&key[..], &[wrong]].concat(),
+            2 => bytes,
+            3 => Vec::new(),
+            _ => [&bytes[..], &[wrong]].concat(),
         }
     }
 
@@ -230,11 +276,11 @@ impl Day<'_> {
 
     fn check(&mut self) {
         let number = self.ticket(|t| t.mode.number == 2 && t.fed.len() < 20_000);
+        let (kind, other) = (self.numbers.below(8), self.numbers.between(8, 16));
         let mut tag = match self.known(number) {
-            Some(ticket) if ticket.mode.number == 2 => reference::mac(&ticket.key, &ticket.fed),
-            _ => self.numbers.bytes(16),
+            Some(ticket) if ticket.mode.number == 2 => ticket.tag(kind, other),
+            _ => self.numbers.bytes(other),
         };
-        tag.truncate(self.numbers.between(8, 16));
         if self.numbers.one_in(3) {
             let bit = self.numbers.below(8 * tag.len());
             tag[bit / 8] ^= 1 << (bit % 8);
@@ -244,7 +290,7 @@ impl Day<'_> {
         }
         self.line_of_bytes("check", number, &tag);
         if let Some(ticket) = self.known(number) {
-            if ticket.mode.number == 2 && (8..=16).contains(&tag.len()) {
+            if ticket.mode.number == 2 && tag.len() == ticket.mode.tag_length() {
                 ticket.feeding = false;
             }
         }

@@ -28,7 +28,7 @@ unfolding tagMatches block
 returns c =
     let a = c .before .before .before .before .args in
     sym (another-length (a .tag .now) (a .self .words) (row (a .self .mode) .mostDrawn) (row (a .self .mode) .drawRate)
-    (λ e. c .if1 .taken (c .before .whole-tag .ensures ∙ sym e)))
+    (λ e. omega (arith, c .before .whole-tag .ensures, e)))
 
 loop-holds : tie.Need-loop-holds Inv-loop μ-loop
 loop-holds c = (search needs, (λ e. below-none _), λ e. refl)
@@ -69,7 +69,7 @@ returns-2 c =
     let tag = a .tag .now in
     let all : last .i ≡ length tag = omega arith in
     judged tag (a .self .words) (row (a .self .mode) .mostDrawn) (row (a .self .mode) .drawRate) (last .difference)
-    (sym (c .before .before .if1 .left) ∙ c .before .before .before .whole-tag .ensures)
+    (omega (arith, c .before .before .before .whole-tag .ensures))
     (rw all at (last .inv .1)) (rw all at (last .inv .2))
 
 pub tag-matches-spec : {M : Type 1} → statement M
