@@ -28,7 +28,7 @@ uint64_t testbench_permute_chain(uint64_t x0, uint64_t rounds, uint64_t times);
 
 /* Writes `out_length` bytes of the output of a mode for a message, and gives how many times the state was permuted.
  * The modes: 1 PRF, 2 MAC, 3 hash, 4 XOF, 5 HASHA, 6 XOFA. Modes 1 and 2 take a key of 16 bytes; of a longer one the first 16 count, and a shorter one is followed
- * by zeros. Modes 3 to 6 take no notice of a key. Mode 2 is the MAC with tags of `tag_length` bytes, any number of them; the other modes take no notice of that.
+ * by zeros. Modes 3 to 6 take no notice of a key. Mode 2 is the MAC with tags of `tag_length` bytes, 0 to 255; the other modes take no notice of that.
  * The message is fed in two parts, the first of `cut` bytes, and the output is drawn in two, the first of `first` bytes; a number past the end is the end.
  * Neither number makes a difference to what is written or given.
  * Any number of bytes may be fed and drawn: the limits of a ticket are the hub's.
@@ -37,7 +37,7 @@ uint64_t testbench_sponge(const uint8_t *key, size_t key_length, const uint8_t *
                           uint32_t mode, uint8_t tag_length, size_t cut, size_t first);
 
 /* Gives 1 where the `given` bytes of the tag are the message's whole MAC with tags of `tag_length` bytes, and 0 where they are not, or are more or fewer. Where
- * `tag_length` is more than 16, the first 16 bytes of that MAC's output are the whole.
+ * `tag_length` is more than 16, the first 16 bytes of that MAC's output are the whole; where it is 0, no bytes are.
  * The key is taken as by testbench_sponge. Of a tag that has the right length every byte is looked at, whatever the others are. */
 uint32_t testbench_tag(const uint8_t *key, size_t key_length, const uint8_t *message, size_t message_length, const uint8_t *tag, size_t given,
                        uint8_t tag_length);

@@ -112,7 +112,7 @@ drawing =
 
 -- whether a tag is the MAC of 32 zeros under the key of zeros, with tags of so many bytes: left as it is, no run is computed
 abbrev verdict : ℕ → List ℕ → Bool
-verdict length tag = same tag (oneShot (row (Mac length)) (zeros 16) (zeros 32) length)
+verdict tagLength tag = same tag (oneShot (row (Mac tagLength)) (zeros 16) (zeros 32) tagLength)
 
 abbrev checking : Table
 checking =

@@ -13,7 +13,7 @@ use Rattle.mode.specs.declared.Named.the-variants.{Is, NoMode}
 use Rattle.mode.specs.Mode.{row, numberOf, named}
 use Rattle.mode.proofs.Modes.{number-is, length-ignored, length-kept}
 use Rattle.checks.specs.Checks.{OneCheck, checked}
-use Rattle.calls.specs.Checks.{shortestTag, longestTag, wrongTag, openChecks, Standing, ticketChecks}
+use Rattle.calls.specs.Checks.{shortestTag, longestTag, wrongTagLength, openChecks, Standing, ticketChecks}
 
 pub never-issued : {A : Type 0} (f : ℕ → A) (s : Standing) (cs : List OneCheck) (x : A) → s .issued ≡ false → checked f (ticketChecks s ++ cs) x ≡ f 11
 unfolding ticketChecks
@@ -41,7 +41,7 @@ second-false true b h = absurd (true≢false h)
 second-false false b h = h
 
 -- so it is where 21 passes
-pub tagged : (n tagLength : ℕ) (mode : Mode) → named n tagLength ≡ Is mode → wrongTag (Is mode) tagLength ≡ false → Tagged mode
+pub tagged : (n tagLength : ℕ) (mode : Mode) → named n tagLength ≡ Is mode → wrongTagLength (Is mode) tagLength ≡ false → Tagged mode
 tagged n tagLength mode h pass two =
     rw (length-kept n tagLength mode h two)
     (ltb-false _ _ (second-false (ltb tagLength shortestTag) (ltb longestTag tagLength) (rw two at pass)))

@@ -1,5 +1,5 @@
--- Bytes and verdicts on the plain machine, which the checker computes: the MAC of no bytes under the key 00 01 .. 0f, drawn in parts, and checked with tags of 16 and of 8
--- bytes; and where the output of each mode for no bytes begins, by the mode's number. They begin lines of crates/vectors/stdout.
+-- Bytes and verdicts on the plain machine, which the checker computes: the MAC of no bytes under the key 00 01 .. 0f, drawn in parts, and checked with tags of
+-- 16 and of 8 bytes; and where the output of each mode for no bytes begins, by the mode's number. They begin lines of crates/vectors/stdout.
 -- Assumes nothing.
 use mathlib.Core.Bool.{true, false}
 use mathlib.Core.Path.{_≡_, refl, sym, ap, _∙_}
@@ -47,7 +47,7 @@ pub judging : map (λ (e : Event). e .response .answer)
     (Open 2 key 16 ∷ Open 2 key 8 ∷ Check 1 tag ∷ Check 1 other ∷ Check 1 (take 8 tag) ∷ Check 2 shorter ∷ Check 2 (take 8 tag) ∷ Check 2 tag ∷ []))
     ≡ opened 1 1 ∷ opened 2 1 ∷ judged true 2 ∷ judged false 2 ∷ refused 4 ∷ judged true 2 ∷ judged false 2 ∷ refused 4 ∷ []
 unfolding events machine emptyMachine openMachine openChecks named admit newEntry runsOf formula runsFeeding runsEnded ceiling start openCount total checkMachine ticketChecks checkChecks checkOwn standingOf entryOf placeOf find afterDraw put outputOf
-judging = λ i. opened 1 1 ∷ opened 2 1 ∷ judged (right i) 2 ∷ judged (wrong i) 2 ∷ refused 4 ∷ judged (short i) 2 ∷ judged (cut i) 2 ∷ refused 4 ∷ []
+judging = λ i. opened 1 1 ∷ opened 2 1 ∷ judged (right i) 2 ∷ judged (wrong i) 2 ∷ refused 4 ∷ judged (short i) 2 ∷ judged (beginning i) 2 ∷ refused 4 ∷ []
   where
     right : same tag (oneShot (row (Mac 16)) key [] 16) ≡ true
     right = equal-same tag _ (sym (macs .0))
@@ -58,8 +58,8 @@ judging = λ i. opened 1 1 ∷ opened 2 1 ∷ judged (right i) 2 ∷ judged (wro
     short : same shorter (oneShot (row (Mac 8)) key [] 8) ≡ true
     short = equal-same shorter _ (sym (macs .1))
 
-    cut : same (take 8 tag) (oneShot (row (Mac 8)) key [] 8) ≡ false
-    cut = other-same (take 8 tag) _ (λ e. absurd (omega (arith, ap (λ (l : List ℕ). getD l 0 0) (e ∙ macs .1))))
+    beginning : same (take 8 tag) (oneShot (row (Mac 8)) key [] 8) ≡ false
+    beginning = other-same (take 8 tag) _ (λ e. absurd (omega (arith, ap (λ (l : List ℕ). getD l 0 0) (e ∙ macs .1))))
 
 -- a draw writes from place on the bytes that come next, and keeps the buffer's others; a refused one writes nothing
 pub drawn-bytes : map (λ (e : Event). e .response .buffer)

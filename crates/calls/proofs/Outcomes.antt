@@ -1,6 +1,6 @@
 -- What a call on a sound machine comes to: it is refused, a ticket is issued, the entry of an open ticket is changed, or the sum is given.
 -- Assumes nothing.
-use mathlib.Core.Bool.{Bool, true, false, cond}
+use mathlib.Core.Bool.{Bool, true, false}
 use mathlib.Core.Path.{_≡_, refl, sym, ap, _∙_}
 use mathlib.Core.Logic.{_≢_}
 use mathlib.Core.List.{List, [], _∷_, _++_}

@@ -1,4 +1,5 @@
--- Which check answers: the orders of document 01's "Tickets" and the numbers and limits of "Refused", for any values, lists of calls being too short for some.
+-- Which check answers: the orders of document 01's "Tickets" with request K2's 21, and the numbers and limits of "Refused", for any values, lists of calls being too
+-- short for some.
 -- For each list of checks the laws take all cases, one after the other in the list's order. What is answered is any function of the number.
 -- Assumes nothing.
 use mathlib.Core.Bool.{Bool, true, false, cond, or-true, and-false}
@@ -13,11 +14,10 @@ use lib.ListN.{length}
 use Rattle.mode.specs.declared.Mode.{Mode}
 use Rattle.mode.specs.declared.Mode.the-variants.{Prf, Mac, Hash, Xof, HashA, XofA}
 use Rattle.mode.specs.declared.Named.the-variants.{Is, NoMode}
-use Rattle.mode.specs.Mode.{row, numberOf}
-use Rattle.mode.proofs.Modes.{named-number}
-use Rattle.calls.specs.Call.{Step, refuse}
+use Rattle.mode.specs.Mode.{row, numberOf, named}
+use Rattle.calls.specs.Call.{refuse}
 use Rattle.checks.specs.Checks.{OneCheck, checked}
-use Rattle.calls.specs.Checks.{mostOpen, wrongTag, Standing, openChecks, ticketChecks, feedOwn, feedChecks, drawOwn, drawChecks, checkOwn, checkChecks}
+use Rattle.calls.specs.Checks.{mostOpen, wrongTagLength, Standing, openChecks, ticketChecks, feedOwn, feedChecks, drawOwn, drawChecks, checkOwn, checkChecks}
 use Rattle.calls.specs.Machine.{Machine, openCount, admit, openMachine}
 use Rattle.calls.proofs.Checks.{never-issued, is-closed}
 
@@ -39,11 +39,11 @@ most-drawn HashA = refl
 most-drawn XofA = refl
 
 -- the tag lengths that are not wrong: 8 to 16 in mode 2, and any in another mode
-pub right-tag : (mode : Mode) (tag : ℕ) → 8 ≤ tag → tag ≤ 16 → wrongTag (Is mode) tag ≡ false
-right-tag mode tag low high = rw (le-ltb tag 8 low, le-ltb 16 tag high, and-false)
+pub right-length : (mode : Mode) (tagLength : ℕ) → 8 ≤ tagLength → tagLength ≤ 16 → wrongTagLength (Is mode) tagLength ≡ false
+right-length mode tagLength low high = rw (le-ltb tagLength 8 low, le-ltb 16 tagLength high, and-false)
 
-pub any-tag : (mode : Mode) (tag : ℕ) → numberOf mode ≢ 2 → wrongTag (Is mode) tag ≡ false
-any-tag mode tag other = rw (ne-eqb (numberOf mode) 2 other)
+pub any-length : (mode : Mode) (tagLength : ℕ) → numberOf mode ≢ 2 → wrongTagLength (Is mode) tagLength ≡ false
+any-length mode tagLength other = rw (ne-eqb (numberOf mode) 2 other)
 
 -- the standing of an open ticket
 abbrev pub openStanding : Mode → Bool → ℕ → ℕ → Standing
@@ -56,35 +56,35 @@ module _ {A : Type 0} (answer : ℕ → A) (done : A) where
 
   -- ---- open: 1, 2, 21, 14, 13
 
-  module _ (key : List ℕ) (tag issued : ℕ) (full : Bool) where
-    -- whatever the key
-    pub open-1 : outcome (openChecks NoMode key tag issued full) ≡ answer 1
+  module _ (key : List ℕ) (tagLength issued : ℕ) (full : Bool) where
+    -- whatever the key and the tag length
+    pub open-1 : outcome (openChecks NoMode key tagLength issued full) ≡ answer 1
     unfolding openChecks
     open-1 = refl
 
     -- whatever the tag length, however many are issued and open
-    pub open-2 : (mode : Mode) → length key ≢ row mode .keyLength → outcome (openChecks (Is mode) key tag issued full) ≡ answer 2
+    pub open-2 : (mode : Mode) → length key ≢ row mode .keyLength → outcome (openChecks (Is mode) key tagLength issued full) ≡ answer 2
     unfolding openChecks
     open-2 mode wrong = rw (ne-eqb (length key) (row mode .keyLength) wrong)
 
     -- however many are issued and open
-    pub open-21-short : length key ≡ 16 → tag < 8 → outcome (openChecks (Is (Mac tag)) key tag issued full) ≡ answer 21
+    pub open-21-short : length key ≡ 16 → tagLength < 8 → outcome (openChecks (Is (Mac tagLength)) key tagLength issued full) ≡ answer 21
     unfolding openChecks
-    open-21-short right short = rw (eq-eqb (length key) 16 right, lt-ltb tag 8 short)
+    open-21-short right short = rw (eq-eqb (length key) 16 right, lt-ltb tagLength 8 short)
 
-    pub open-21-long : length key ≡ 16 → 16 < tag → outcome (openChecks (Is (Mac tag)) key tag issued full) ≡ answer 21
+    pub open-21-long : length key ≡ 16 → 16 < tagLength → outcome (openChecks (Is (Mac tagLength)) key tagLength issued full) ≡ answer 21
     unfolding openChecks
-    open-21-long right long = rw (eq-eqb (length key) 16 right, lt-ltb 16 tag long, or-true)
+    open-21-long right long = rw (eq-eqb (length key) 16 right, lt-ltb 16 tagLength long, or-true)
 
     -- where there is no wrong tag length: whether there is a place or not
-    pub open-14 : (mode : Mode) → length key ≡ row mode .keyLength → wrongTag (Is mode) tag ≡ false → 4294967295 ≤ issued
-        → outcome (openChecks (Is mode) key tag issued full) ≡ answer 14
+    pub open-14 : (mode : Mode) → length key ≡ row mode .keyLength → wrongTagLength (Is mode) tagLength ≡ false → 4294967295 ≤ issued
+        → outcome (openChecks (Is mode) key tagLength issued full) ≡ answer 14
     unfolding openChecks
     open-14 mode right tags all = rw (eq-eqb (length key) (row mode .keyLength) right, tags, le-leb 4294967295 issued all)
 
     -- as long as a number is left
-    pub open-13 : (mode : Mode) → length key ≡ row mode .keyLength → wrongTag (Is mode) tag ≡ false → issued < 4294967295
-        → outcome (openChecks (Is mode) key tag issued full) ≡ cond full (answer 13) done
+    pub open-13 : (mode : Mode) → length key ≡ row mode .keyLength → wrongTagLength (Is mode) tagLength ≡ false → issued < 4294967295
+        → outcome (openChecks (Is mode) key tagLength issued full) ≡ cond full (answer 13) done
     unfolding openChecks
     open-13 mode right tags room = rw (eq-eqb (length key) (row mode .keyLength) right, tags, lt-leb 4294967295 issued room)
 
@@ -168,19 +168,20 @@ module _ {A : Type 0} (answer : ℕ → A) (done : A) where
 
 -- ---- the last ticket, on the plain machine
 
-module _ (mode : Mode) (key : List ℕ) (m : Machine) (right : length key ≡ row mode .keyLength) (tags : wrongTag (Is mode) (row mode .mostDrawn) ≡ false) where
-  -- an open that names the mode, with its tag length
-  abbrev opening : Step Machine
-  opening = openMachine (numberOf mode) key (row mode .mostDrawn) m
-
+-- an open that names a mode with a right key and tag length
+module _ (n : ℕ) (key : List ℕ) (tagLength : ℕ) (m : Machine) (mode : Mode) (meant : named n tagLength ≡ Is mode) (right : length key ≡ row mode .keyLength)
+    (tags : wrongTagLength (Is mode) tagLength ≡ false) where
   -- all are issued, whether there is a place or not
-  pub all-issued : length (m .entries) ≡ 4294967295 → opening ≡ refuse m [] 14
+  pub all-issued : length (m .entries) ≡ 4294967295 → openMachine n key tagLength m ≡ refuse m [] 14
   unfolding openMachine
-  all-issued n =
-      rw named-number (open-14 (refuse m []) (admit (Is mode) key m) key (row mode .mostDrawn) (length (m .entries)) (leb mostOpen (openCount m)) mode right tags (omega arith))
+  all-issued all =
+      rw meant
+      (open-14 (refuse m []) (admit (Is mode) key m) key tagLength (length (m .entries)) (leb mostOpen (openCount m)) mode right tags (omega arith))
 
   -- one is left: it is issued unless 16 are open
-  pub one-left : length (m .entries) ≡ 4294967294 → opening ≡ cond (leb 16 (openCount m)) (refuse m [] 13) (admit (Is mode) key m)
+  pub one-left : length (m .entries) ≡ 4294967294
+      → openMachine n key tagLength m ≡ cond (leb 16 (openCount m)) (refuse m [] 13) (admit (Is mode) key m)
   unfolding openMachine
-  one-left n =
-      rw named-number (open-13 (refuse m []) (admit (Is mode) key m) key (row mode .mostDrawn) (length (m .entries)) (leb mostOpen (openCount m)) mode right tags (omega arith))
+  one-left one =
+      rw meant
+      (open-13 (refuse m []) (admit (Is mode) key m) key tagLength (length (m .entries)) (leb mostOpen (openCount m)) mode right tags (omega arith))

@@ -160,7 +160,7 @@ sound-empty = record {
 sound-outcome : (m : Machine) → Sound m → {c : Call} {r : Step Machine} → Outcome m c r → Sound (r .after)
 unfolding withNew afterFeed afterDraw afterClose sumMachine
 sound-outcome m s (refuses c buffer n h) = s
-sound-outcome m s (issues n mode key length h short room) = new-sound m s mode key short room
+sound-outcome m s (issues n mode key tagLength h short room) = new-sound m s mode key short room
 sound-outcome m s (feeds t bytes e o h room) = change-sound m s t e (afterFeed bytes e) o refl (good-fed bytes e (o .good) room)
 sound-outcome m s (draws t buffer place count e o h room) = change-sound m s t e (afterDraw count e) o refl (good-drawn count e (o .good) room)
 sound-outcome m s (checks t tag e o) = change-sound m s t e (afterDraw 0 e) o refl (good-drawn 0 e (o .good) (omega (arith, o .good .within)))

@@ -1,6 +1,6 @@
--- Tag lengths on the plain machine: that they count in mode 2 alone, and that an accepted check passes exactly where the tag is the MAC.
+-- The verdict on the plain machine: an accepted check passes exactly where the tag is the MAC.
 -- Assumes nothing.
-use mathlib.Core.Bool.{Bool, true, false, false≢true}
+use mathlib.Core.Bool.{true, false, false≢true}
 use mathlib.Core.Path.{_≡_, refl, sym, ap, ap₂, _∙_}
 use mathlib.Core.List.{List, [], _∷_}
 use Prim.Native.Nat.{ℕ}
@@ -12,33 +12,22 @@ use Rattle.checks.proofs.Checks.{checked-nonzero}
 use Rattle.checks.proofs.Equality.{equal-same, other-same}
 use Rattle.mode.specs.declared.Mode.{Mode}
 use Rattle.mode.specs.declared.Mode.the-variants.{Mac}
-use Rattle.mode.specs.declared.Named.{Named}
 use Rattle.mode.specs.declared.Named.the-variants.{Is}
-use Rattle.mode.specs.Mode.{row, named}
-use Rattle.mode.proofs.Modes.{length-ignored}
+use Rattle.mode.specs.Mode.{row}
 use Rattle.sponge.specs.Sponge.{oneShot}
 use Rattle.calls.specs.Answer.{accepted, judged}
 use Rattle.calls.specs.Call.{Call, Check, Step, step, refuse, events, final}
-use Rattle.calls.specs.Checks.{Standing, ticketChecks, checkOwn, checkChecks}
-use Rattle.calls.specs.Law.{LengthIgnored, macFed, Verdicts}
-use Rattle.calls.specs.Lists.{Issue, issuedBy, issueOf, bytesFed}
-use Rattle.calls.specs.Machine.{Entry, Machine, emptyMachine, runsOf, outputOf, afterDraw, put, openMachine, checkMachine, machine}
+use Rattle.calls.specs.Checks.{ticketChecks, checkOwn, checkChecks}
+use Rattle.calls.specs.Law.{macFed, Verdicts}
+use Rattle.calls.specs.Lists.{issuedBy, issueOf}
+use Rattle.calls.specs.Machine.{Entry, Machine, emptyMachine, runsOf, outputOf, afterDraw, put, checkMachine, machine}
 use Rattle.calls.proofs.Keyed.{all}
-use Rattle.calls.proofs.Checks.{checks-ignore}
 use Rattle.calls.proofs.Entries.{number, standingFor}
-use Rattle.calls.proofs.Outcomes.{OpenTicket, at-ticket}
+use Rattle.calls.proofs.Outcomes.{at-ticket}
 use Rattle.calls.proofs.Readings.{Reading, unread, readOn}
 use Rattle.calls.proofs.Sound.{sound-empty, sound-final}
 use Rattle.calls.proofs.Tickets.{readingOf}
 use Rattle.calls.proofs.Law.{entry-says}
-
--- ---- a tag length that is ignored
-
-pub machine-ignores : LengthIgnored machine emptyMachine
-unfolding machine openMachine
-machine-ignores mode a b key other m = rw (checks-ignore mode a b other, length-ignored mode a b other)
-
--- ---- the verdict
 
 module _ (calls : List Call) (t own : ℕ) (key tag : List ℕ) (issued : issueOf t (events machine emptyMachine calls) ≡ issuedBy (Is (Mac own)) key) where
   abbrev end : Machine

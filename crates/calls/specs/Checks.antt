@@ -1,5 +1,5 @@
--- The checks of document 01's "Tickets", each call's in its order there, with the numbers of "Refused". The hub and the plain machine answer by these same lists:
--- what the checks ask about a ticket is its standing, which each of the two works out in its own way.
+-- The checks of document 01's "Tickets" and request K2's 21, each call's in its order, with the numbers of "Refused". The hub and the plain machine answer by
+-- these same lists: what the checks ask about a ticket is its standing, which each of the two works out in its own way.
 -- Assumes nothing.
 use mathlib.Core.Bool.{Bool, true, false, not, _&&_, _||_}
 use mathlib.Core.List.{List, [], _∷_, _++_}
@@ -46,14 +46,14 @@ wrongKey (Is mode) key = not (eqb (length key) (row mode .keyLength))
 wrongKey NoMode key = true
 
 -- a tag length of mode 2 is not 8 to 16. In every other mode any is right, for no mode none is
-abbrev pub wrongTag : Named → ℕ → Bool
-wrongTag (Is mode) tagLength = eqb (numberOf mode) 2 && (ltb tagLength shortestTag || ltb longestTag tagLength)
-wrongTag NoMode tagLength = true
+abbrev pub wrongTagLength : Named → ℕ → Bool
+wrongTagLength (Is mode) tagLength = eqb (numberOf mode) 2 && (ltb tagLength shortestTag || ltb longestTag tagLength)
+wrongTagLength NoMode tagLength = true
 
 -- how many tickets were issued; whether as many are open as there are places
 unfoldable pub openChecks : Named → List ℕ → ℕ → ℕ → Bool → List OneCheck
 openChecks mode key tagLength issued full =
-    refusal 1 (namesNone mode) ∷ refusal 2 (wrongKey mode key) ∷ refusal 21 (wrongTag mode tagLength) ∷ refusal 14 (leb mostIssued issued) ∷ refusal 13 full ∷ []
+    refusal 1 (namesNone mode) ∷ refusal 2 (wrongKey mode key) ∷ refusal 21 (wrongTagLength mode tagLength) ∷ refusal 14 (leb mostIssued issued) ∷ refusal 13 full ∷ []
 
 -- ---- calls on a ticket
 
@@ -85,7 +85,7 @@ drawOwn s buffer place count = refusal 3 (ltb (length buffer) (place + count)) �
 unfoldable pub drawChecks : Standing → List ℕ → ℕ → ℕ → List OneCheck
 drawChecks s buffer place count = ticketChecks s ++ drawOwn s buffer place count
 
--- check: 11, 12, and its own, 18, 4: a tag has the length that the ticket's open named, all that is drawn
+-- check: 11, 12, and its own, 18, 4: a tag has the length that the ticket's open named, as much as may be drawn
 unfoldable pub checkOwn : Standing → List ℕ → List OneCheck
 checkOwn s tag = refusal 18 (not (eqb (numberOf (s .mode)) 2)) ∷ refusal 4 (not (eqb (length tag) (row (s .mode) .mostDrawn))) ∷ []
 

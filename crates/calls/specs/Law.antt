@@ -31,7 +31,8 @@ module _ {S : Type 0} (run : Call → S → Step S) (empty : S) where
 
   -- The law over one list of calls, refused ones included.
   pub record Law (calls : List Call) : Type 0 where
-    -- of a ticket that was issued for a mode, with its tag length, and a key, the bytes drawn, d in all, are the first d bytes of the one-shot output for the bytes fed
+    -- of a ticket that was issued for a mode, with its tag length, and a key, the bytes drawn, d in all, are the first d bytes of the one-shot output for the
+    -- bytes fed
     pub bytes : (t : ℕ) (mode : Mode) (key : List ℕ) → issueOf t (transcript calls) ≡ issuedBy (Is mode) key
         → bytesDrawn t (transcript calls) ≡ oneShot (row mode) key (bytesFed t (transcript calls)) (length (bytesDrawn t (transcript calls)))
     -- its run count, given by the last accepted call on it, is the formula: for whether feeding lasts, n bytes fed and d drawn
@@ -51,8 +52,8 @@ module _ {S : Type 0} (run : Call → S → Step S) (empty : S) where
   abbrev pub exchanges : ℕ → List Call → List Event
   exchanges t calls = naming t (afterIssue t (transcript calls))
 
-  -- Tickets stand apart. In two lists ticket t, by that number in both, was issued for the same mode, with its tag length, and the same key, and the calls that name it
-  -- from then on are the same, in the same order: then they get the same answers and the same buffers, whatever else the lists hold.
+  -- Tickets stand apart. In two lists ticket t, by that number in both, was issued for the same mode, with its tag length, and the same key, and the calls that
+  -- name it from then on are the same, in the same order: then they get the same answers and the same buffers, whatever else the lists hold.
   abbrev pub Apart : Type 0
   Apart =
       (calls others : List Call) (t : ℕ) (mode : Named) (key : List ℕ)
@@ -69,14 +70,14 @@ module _ {S : Type 0} (run : Call → S → Step S) (empty : S) where
 
   -- the MAC of all that a list feeds to a ticket, with tags of so many bytes
   abbrev pub macFed : List Call → ℕ → ℕ → List ℕ → List ℕ
-  macFed calls t length key = oneShot (row (Mac length)) key (bytesFed t (transcript calls)) length
+  macFed calls t tagLength key = oneShot (row (Mac tagLength)) key (bytesFed t (transcript calls)) tagLength
 
-  -- The verdict. A check after a list, on a ticket that was issued for mode 2 with this tag length and this key: if it is accepted, it passes where the tag is the MAC of
-  -- the bytes fed, whole, and fails where it is anything else.
+  -- The verdict. A check after a list, on a ticket that was issued for mode 2 with this tag length and this key: if it is accepted, it passes where the tag is
+  -- the MAC of the bytes fed, whole, and fails where it is anything else.
   abbrev pub Verdicts : Type 0
   Verdicts =
-      (calls : List Call) (t length : ℕ) (key tag : List ℕ)
-      → issueOf t (transcript calls) ≡ issuedBy (Is (Mac length)) key
+      (calls : List Call) (t tagLength : ℕ) (key tag : List ℕ)
+      → issueOf t (transcript calls) ≡ issuedBy (Is (Mac tagLength)) key
       → accepted (run (Check t tag) (final run empty calls) .response .answer) ≡ true
-      → (tag ≡ macFed calls t length key → run (Check t tag) (final run empty calls) .response .answer .passed ≡ true)
-      × (tag ≢ macFed calls t length key → run (Check t tag) (final run empty calls) .response .answer .passed ≡ false)
+      → (tag ≡ macFed calls t tagLength key → run (Check t tag) (final run empty calls) .response .answer .passed ≡ true)
+      × (tag ≢ macFed calls t tagLength key → run (Check t tag) (final run empty calls) .response .answer .passed ≡ false)

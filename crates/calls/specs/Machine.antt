@@ -119,7 +119,7 @@ drawMachine t buffer place count m =
     checked (refuse m buffer) (drawChecks (standingOf t m) buffer place count)
     (step (put t e m) (counted (runsOf e)) (written buffer place (drop (before .drawn) (outputOf before (before .drawn + count)))))
 
--- the tag passes if it equals the whole output, all that is drawn of a MAC
+-- the tag passes if it equals the MAC, whole: all the output that may be drawn
 unfoldable pub checkMachine : ℕ → List ℕ → Machine → Step Machine
 checkMachine t tag m =
     let e : Entry = afterDraw 0 (entryOf t m) in

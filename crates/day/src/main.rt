@@ -13,8 +13,8 @@ ghost use Rattle.listing.specs.Listing.{Lists};
 ghost use Rattle.day.specs.declared.Step.the-variants.{FeedOften};
 ghost use Rattle.day.specs.Day as spec;
 
-// A call of the plan. Its bytes are so many of the sample from a place on: after the mode or the ticket stand the place and how many. An open has a tag length then; a
-// draw has the length of the buffer that it is lent, the place and the count.
+// A call of the plan. Its bytes are so many of the sample from a place on: after the mode or the ticket stand the place and how many. An open also has a tag length;
+// a draw has the length of the buffer that it is lent, the place and the count.
 enum Planned {
     Open(u32, usize, usize, u32),
     Feed(u32, usize, usize),
@@ -85,8 +85,8 @@ const DAY: [Step; 90] = [
     Step::Make(Planned::Draw(2, 8, 1, 8)),
     Step::Make(Planned::Draw(2, 8, 18446744073709551615, 1)),
     Step::Make(Planned::Draw(2, 8, 1, 18446744073709551615)),
-    // Two lines under one key: the tag that one gives the other takes, but not its first eight bytes, and a damaged one fails. A third, with tags of eight bytes, takes its
-    // own and not those eight.
+    // Two lines under one key: the tag that one gives the other takes, but not its first eight bytes, and a damaged one fails. A third, with tags of eight
+    // bytes, takes its own and not those eight.
     Step::Begin,
     Step::Make(Planned::Open(2, 0, 16, 16)),
     Step::Make(Planned::Open(2, 0, 16, 16)),
@@ -267,8 +267,8 @@ fn make(before: Hub, planned: Planned, sample: &[u8], text: &mut [u8], at: usize
     }
 }
 
-// Turn number i of those that go through the lines: sixteen opens, the modes in turn and with several tag lengths; eighty feeds, some of no byte at all; ninety-six draws, some past the limits
-// of modes 2 and 3 and some past the buffer's end; and closes, each ticket's twice.
+// Turn number i of those that go through the lines: sixteen opens, the modes in turn and with several tag lengths; eighty feeds, some of no byte at all;
+// ninety-six draws, some past the limits of modes 2 and 3 and some past the buffer's end; and closes, each ticket's twice.
 fn turn(i: usize) -> Planned
     ensures { λ r. ⌜ r ≡ spec.turnAt i ⌝ }
 {

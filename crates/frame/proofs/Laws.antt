@@ -1,7 +1,7 @@
 -- What both calls give where they are refused and where they are done, and what the sponge of a frame gives: its tag, its verdict and its runs.
 -- Assumes nothing.
 use mathlib.Core.Bool.{true, false, cond, not}
-use mathlib.Core.Path.{_≡_, refl, sym, ap, ap₂, _∙_}
+use mathlib.Core.Path.{_≡_, refl, sym, ap, _∙_}
 use mathlib.Core.Logic.{_≢_}
 use mathlib.Core.List.{List}
 use Prim.Native.Nat.{ℕ, _+_, _^_, _≤_, _<_}

@@ -23,7 +23,7 @@ use Rattle.calls.specs.Answer.{refused, opened, counted, judged}
 use Rattle.checks.specs.Checks.{OneCheck, checked}
 use Rattle.checks.specs.Buffers.{written}
 use Rattle.checks.proofs.Checks.{checked-both}
-use Rattle.calls.specs.Checks.{mostIssued, shortestTag, longestTag, wrongTag, Standing, openChecks, ticketChecks, feedOwn, feedChecks, drawOwn, drawChecks, checkOwn, checkChecks}
+use Rattle.calls.specs.Checks.{mostIssued, shortestTag, longestTag, wrongTagLength, Standing, openChecks, ticketChecks, feedOwn, feedChecks, drawOwn, drawChecks, checkOwn, checkChecks}
 use Rattle.calls.specs.Call.{Step, step, refuse}
 use Rattle.calls.proofs.Checks.{never-issued, is-closed, is-open, second-false}
 use Rattle.hub.specs.declared.Hub.{Hub}
@@ -152,7 +152,7 @@ low-byte : (tagLength : ℕ) → ltb tagLength shortestTag || ltb longestTag tag
 low-byte tagLength h = omega (arith, ltb-false longestTag tagLength (second-false (ltb tagLength shortestTag) (ltb longestTag tagLength) h))
 
 -- so a mode that is named with the low byte, and has no wrong tag length, is the one that is named
-pub named-whole : (n tagLength : ℕ) (m : Mode) → named n (tagLength % 256) ≡ Is m → wrongTag (Is m) tagLength ≡ false → named n tagLength ≡ Is m
+pub named-whole : (n tagLength : ℕ) (m : Mode) → named n (tagLength % 256) ≡ Is m → wrongTagLength (Is m) tagLength ≡ false → named n tagLength ≡ Is m
 named-whole n tagLength m e right = go (ℕ-discrete n 2)
   where
     go : Dec (n ≡ 2) → named n tagLength ≡ Is m
@@ -162,7 +162,7 @@ named-whole n tagLength m e right = go (ℕ-discrete n 2)
     go (no other) = length-ignored n tagLength (tagLength % 256) other ∙ e
 
 -- modes of one number have the same wrong tag lengths
-pub wrong-alike : (a b : Mode) (tagLength : ℕ) → numberOf a ≡ numberOf b → wrongTag (Is a) tagLength ≡ wrongTag (Is b) tagLength
+pub wrong-alike : (a b : Mode) (tagLength : ℕ) → numberOf a ≡ numberOf b → wrongTagLength (Is a) tagLength ≡ wrongTagLength (Is b) tagLength
 wrong-alike a b tagLength h = ap (λ (n : ℕ). eqb n 2 && (ltb tagLength shortestTag || ltb longestTag tagLength)) h
 
 module _ (mode : ℕ) (key : List ℕ) (tagLength : ℕ) (h : Hub) where
@@ -184,11 +184,11 @@ module _ (mode : ℕ) (key : List ℕ) (tagLength : ℕ) (h : Hub) where
     open-2 e2 = open-named ∙ rw e2
 
     module _ (e2 : eqb (length key) (row m .keyLength) ≡ true) where
-      pub open-21 : wrongTag (Is m) tagLength ≡ true → openHub mode key tagLength h ≡ refuse h [] 21
+      pub open-21 : wrongTagLength (Is m) tagLength ≡ true → openHub mode key tagLength h ≡ refuse h [] 21
       unfolding openChecks
       open-21 e21 = open-named ∙ rw (e2, e21)
 
-      module _ (e21 : wrongTag (Is m) tagLength ≡ false) where
+      module _ (e21 : wrongTagLength (Is m) tagLength ≡ false) where
         pub open-14 : mostIssued ≤ h .issued → openHub mode key tagLength h ≡ refuse h [] 14
         unfolding openChecks
         open-14 l = open-named ∙ rw (e2, e21, le-leb mostIssued (h .issued) l)

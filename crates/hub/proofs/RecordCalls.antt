@@ -1,6 +1,6 @@
 -- What a call makes of its ticket's record, by which of its checks fails first.
 -- Assumes nothing.
-use mathlib.Core.Bool.{true, false, not, _||_}
+use mathlib.Core.Bool.{true, false, not}
 use mathlib.Core.Path.{_≡_, refl, sym, ap, _∙_}
 use mathlib.Core.List.{List, [], _∷_}
 use mathlib.Core.Logic.{_≢_}
@@ -16,7 +16,7 @@ use Rattle.sponge.specs.Record.{vacant, absorbed, finished, nextBytes, squeezed
 use Rattle.calls.specs.Answer.{counted, judged}
 use Rattle.checks.specs.Checks.{checked}
 use Rattle.checks.specs.Buffers.{written}
-use Rattle.calls.specs.Checks.{mostFed, shortestTag, longestTag, feedOwn, drawOwn, checkOwn}
+use Rattle.calls.specs.Checks.{mostFed, feedOwn, drawOwn, checkOwn}
 use Rattle.calls.specs.Call.{Step, step, refuse}
 use Rattle.checks.proofs.Checks.{checked-each, refused-by-number, zero-passes, passed-done}
 use Rattle.hub.specs.Records.{standingAs, found, feedRefusal, workedOf, counting, feedRecord, drawRecord, checkRecord, closeRecord}

@@ -1,5 +1,5 @@
--- The law over lists of calls, and that tickets stand apart: document 01's third demand, for the hub; and what request K2 says of tag lengths and verdicts. The statements
--- are those of `calls`, specs/Law.antt, over the definitions that the calls promise. proofs/Law.antt proves them.
+-- The law over lists of calls, and that tickets stand apart: document 01's third demand, for the hub; and what request K2 says of tag lengths and verdicts. The
+-- statements are those of `calls`, specs/Law.antt, over the definitions that the calls promise. proofs/Law.antt proves them.
 -- Assumes nothing.
 use mathlib.Core.List.{List}
 use Rattle.calls.specs.Call.{Call}
@@ -22,6 +22,6 @@ HubApart = Apart onHub emptyHub
 abbrev pub HubLengthIgnored : Type 0
 HubLengthIgnored = LengthIgnored onHub emptyHub
 
--- and a check after any list passes exactly where the tag is the MAC of the bytes fed, of the length that the open named
+-- and an accepted check after any list passes exactly where the tag is the MAC of the bytes fed, of the length that the open named
 abbrev pub HubVerdicts : Type 0
 HubVerdicts = Verdicts onHub emptyHub

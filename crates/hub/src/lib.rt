@@ -21,7 +21,7 @@ use sponge::Record;
 ghost use mathlib.Core.Path.{_≡_};
 ghost use mathlib.Core.List.{[]};
 ghost use Rattle.mode.specs.declared.Named.the-variants.{Is};
-ghost use Rattle.calls.specs.Checks.{wrongTag};
+ghost use Rattle.calls.specs.Checks.{wrongTagLength};
 ghost use Rattle.calls.specs.Call as call;
 ghost use Rattle.hub.specs.Hub as spec;
 
@@ -79,8 +79,8 @@ impl Hub {
 }
 
 // Whether a tag length is wrong for a mode. Only one mode has tags.
-fn wrong_tag(mode: Mode, length: u32) -> bool
-    ensures { λ r. ⌜ r ≡ wrongTag (Is mode) length ⌝ }
+fn wrong_tag_length(mode: Mode, length: u32) -> bool
+    ensures { λ r. ⌜ r ≡ wrongTagLength (Is mode) length ⌝ }
 {
     if mode.number() != Hub::TAG_MODE {
         return false;
@@ -100,7 +100,7 @@ pub fn open(hub: Hub, mode: u32, key: &[u8], tag_length: u32) -> Reply
     if key.len() != named.key_length() {
         return hub.refuse(2);
     }
-    if wrong_tag(named, tag_length) {
+    if wrong_tag_length(named, tag_length) {
         return hub.refuse(21);
     }
     if Hub::MOST_ISSUED <= hub.issued {

@@ -28,7 +28,7 @@ use Rattle.interpreter.specs.Promises.{Stepping}
 -- ---- an open
 
 module _ (mode : ℕ) (bs : List ℕ) (h : Hub) (reply : Reply) where
-  -- in no other mode than 2 the bytes are the key
+  -- in any mode but 2 the bytes are the key
   pub opened-plain : mode ≢ 2 → reply ≡ replyOf (openHub mode bs 0 h) → reply ≡ replyOf (onHub (openOf mode bs) h)
   unfolding onHub
   opened-plain other e = rw (ne-eqb mode 2 other) e

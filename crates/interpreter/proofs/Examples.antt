@@ -135,7 +135,7 @@ pub examples :
     × Prints "call number bytes\ndraw 1 0002\nopen 0 -\nopen 1 00\nopen 3 -\ncheck 1 0011223344556677\nclose 2 -\ndraw 1 0021\n"
     "answer number bytes\nno 11 -\nno 1 -\nno 2 -\nok 1 -\nno 18 -\nno 11 -\nno 17 -\n"
     -- in mode 2 a tag length after the key, and in mode 1 none; what is drawn and checked has that length
-    × Prints "call number bytes\nopen 2 -\nopen 2 10\nopen 2 00000000000000000000000000000000\nopen 2 0000000000000000000000000000000007\nopen 2 0000000000000000000000000000000011\nopen 2 0000000000000000000000000000000008\nopen 2 0000000000000000000000000000000010\nopen 1 00000000000000000000000000000000\nopen 1 0000000000000000000000000000000008\ndraw 1 0009\ncheck 1 00000000000000000000000000000000\ncheck 2 0000000000000000\ndraw 2 0011\n"
-    "answer number bytes\nno 2 -\nno 2 -\nno 2 -\nno 21 -\nno 21 -\nok 1 -\nok 2 -\nok 3 -\nno 2 -\nno 17 -\nno 4 -\nno 4 -\nno 17 -\n"
+    × Prints "call number bytes\nopen 2 -\nopen 2 10\nopen 2 00000000000000000000000000000000\nopen 2 0000000000000000000000000000000007\nopen 2 0000000000000000000000000000000011\nopen 2 0000000000000000000000000000000008\nopen 2 0000000000000000000000000000000010\nopen 1 00000000000000000000000000000000\nopen 1 0000000000000000000000000000000008\nopen 2 000000000000000000000000000000000008\nopen 4 08\nopen 5 08\nopen 6 08\ndraw 1 0009\ncheck 1 00000000000000000000000000000000\ncheck 2 0000000000000000\ndraw 2 0011\n"
+    "answer number bytes\nno 2 -\nno 2 -\nno 2 -\nno 21 -\nno 21 -\nok 1 -\nok 2 -\nok 3 -\nno 2 -\nno 2 -\nno 2 -\nno 2 -\nno 2 -\nno 17 -\nno 4 -\nno 4 -\nno 17 -\n"
 unfolding output printedOf scriptOf scriptFrom meaning answers answered wordFor numberFor bytesFor callOf lines answerLine parse fields fieldOf countOf isCount countValue noBytesOf bytesOf isHex isDash verbOf same before after isDigit allDigits plainStart valueFrom isNumber numberOf spelled decimal nibble digitOf hexPairs decoded hexOf bytesText events machine emptyMachine openMachine openChecks named admit newEntry runsOf formula runsFeeding runsEnded ceiling start openCount total feedMachine drawMachine checkMachine closeMachine ticketChecks feedChecks feedOwn drawChecks drawOwn checkChecks checkOwn standingOf entryOf placeOf find afterFeed afterDraw afterClose put sumMachine outputOf written oneShot spongeOutput squeezeBytes
 examples = (refl, refl, refl, refl, refl, refl, refl, refl, refl, refl, refl, refl, refl, refl, refl)

@@ -1,10 +1,13 @@
--- What a script prints, however its input comes.
+-- What a script prints, however its input comes, and what the bytes of an open are.
 -- Assumes nothing.
-use mathlib.Core.Path.{_≡_, ap, _∙_}
-use mathlib.Core.List.{List, _++_}
-use Prim.Native.Nat.{ℕ}
-use lib.ListN.{length}
-use Rattle.calls.specs.Call.{Event}
+use mathlib.Core.Path.{_≡_, refl, ap, ap₂, _∙_}
+use mathlib.Core.List.{List, [], _∷_, _++_}
+use Prim.Native.Nat.{ℕ, _-_}
+use native.Mathlib.Omega.{arith}
+use borrow.Author.Tests.{ne-eqb}
+use lib.ListN.{length, length-append}
+use lib.Seq.{take-at, getD-append-seam}
+use Rattle.calls.specs.Call.{Open as openCall, Event}
 use Rattle.calls.specs.Machine.{machine, emptyMachine}
 use Rattle.hub.specs.Hub.{emptyHub, onHub}
 use Rattle.hub.proofs.Law.{hub-law}
@@ -12,7 +15,7 @@ use Rattle.script.specs.Line.{longestLine}
 use Rattle.interpreter.specs.Script.{answerNames, answers, endingText, scriptOf, printedOf, output}
 use Rattle.interpreter.specs.Session.{Consumed, finished}
 use Rattle.checks.specs.Joined.{joined}
-use Rattle.interpreter.specs.Theorems.{atFirst, printed, Scripts}
+use Rattle.interpreter.specs.Theorems.{atFirst, printed, OpenBytes, Scripts}
 use Rattle.interpreter.proofs.Consuming.{consumed-joined}
 use Rattle.interpreter.proofs.Filling.{filled-parts, parts-whole}
 use Rattle.interpreter.proofs.Bounds.{turns-enough}
@@ -28,6 +31,17 @@ plain : (input : List ℕ) → output onHub emptyHub input ≡ output machine em
 unfolding output printedOf
 plain input =
     ap (λ (es : List Event). answerNames ++ (answers es ++ endingText (scriptOf input .ending))) (hub-law (scriptOf input .calls) .plain)
+
+-- all but the last byte
+before-end : (key : List ℕ) (n : ℕ) → length (key ++ (n ∷ [])) - 1 ≡ length key
+before-end key n = omega (arith, length-append key (n ∷ []))
+
+pub open-bytes : OpenBytes
+open-bytes = record {
+  tagged = λ key n. rw before-end (ap₂ (openCall 2) (take-at key (n ∷ []) (length key) refl) (getD-append-seam key n [] 0));
+  bare = refl;
+  plain = λ mode key other. rw (ne-eqb mode 2 other);
+}
 
 pub scripts : Scripts
 scripts =

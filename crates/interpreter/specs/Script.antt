@@ -50,7 +50,7 @@ mostLines = 1000000
 abbrev pub drawOf : ℕ → ℕ → Call
 drawOf t count = drawCall t (replicate count 0) 0 count
 
--- the bytes of an open are its key. In mode 2 one more byte follows the key, the tag length (request K2); of no bytes there is no key either, which is refused
+-- the bytes of an open are its key. In mode 2 one more byte follows the key, the tag length (request K2); of no bytes there is no key either, which 2 refuses
 abbrev pub keyOf : ℕ → List ℕ → List ℕ
 keyOf mode bs = cond (eqb mode 2) (take (length bs - 1) bs) bs
 

@@ -1,15 +1,17 @@
--- What a script prints, however its input comes. proofs/Theorems.antt proves it.
+-- What a script prints, however its input comes, and what the bytes of an open are. proofs/Theorems.antt proves it.
 -- Assumes nothing.
 use mathlib.Core.Path.{_≡_}
 use mathlib.Core.Bool.{true}
+use mathlib.Core.Logic.{_≢_}
 use mathlib.Core.List.{List, [], _∷_, _++_}
 use Prim.Native.Nat.{ℕ, zero, suc, _≤_}
 use lib.ListN.{length}
 use Rattle.checks.specs.Joined.{joined}
+use Rattle.calls.specs.Call.{Open as openCall}
 use Rattle.calls.specs.Machine.{machine, emptyMachine}
 use Rattle.hub.specs.Hub.{emptyHub, onHub}
 use Rattle.script.specs.Line.{longestLine}
-use Rattle.interpreter.specs.Script.{answerNames, output}
+use Rattle.interpreter.specs.Script.{openOf, answerNames, output}
 use Rattle.interpreter.specs.Session.{begun, Reader, readerOf, Consumed, silent, andThen, consumed, finished, Filled, filled, outputSize}
 
 unfoldable pub consumedAll : Reader → List (List ℕ) → Consumed
@@ -46,6 +48,13 @@ partTexts zero r chunk = []
 partTexts (suc n) r chunk =
     let f : Filled = filled outputSize r [] chunk in
     f .text ∷ partTexts n (f .reader) (f .left)
+
+-- The bytes of an open (request K2). In mode 2 they are a key of any length and one byte more, the tag length; without that byte there is neither. In every other
+-- mode they are the key, and no tag length stands there.
+pub record OpenBytes : Type 0 where
+  pub tagged : (key : List ℕ) (tagLength : ℕ) → openOf 2 (key ++ (tagLength ∷ [])) ≡ openCall 2 key tagLength
+  pub bare : openOf 2 [] ≡ openCall 2 [] 0
+  pub plain : (mode : ℕ) (key : List ℕ) → mode ≢ 2 → openOf mode key ≡ openCall mode key 0
 
 pub record Scripts : Type 0 where
   -- input cut into chunks anywhere prints what the whole script prints

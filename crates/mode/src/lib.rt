@@ -1,5 +1,5 @@
-// The modes, with the table of document 01's "Four modes" and request K1's two rows as associated constants. A column of the table is a method; the MAC's start word and
-// limit are computed from the length of its tags (request K2).
+// The modes, with the table of document 01's "Four modes" and request K1's two rows as associated constants. A column of the table is a method; the MAC's start
+// word and limit are computed from the length of its tags (request K2).
 ghost use mathlib.Core.Path.{_≡_};
 ghost use Rattle.mode.specs.Mode.{numberOf, named, numberNamed, modeNumber, row};
 
@@ -28,7 +28,7 @@ impl Mode {
 
     pub const PRF_START: u64 = 0x8080_8c00_0000_0000;
 
-    // With the length of its tags in bits in the low byte.
+    // The length of its tags in bits is added.
     pub const MAC_START: u64 = 0x8080_8c00_0000_0000;
 
     pub const HASH_START: u64 = 0x0040_0c00_0000_0100;
@@ -141,7 +141,7 @@ impl Mode {
         }
     }
 
-    // At most so many bytes are drawn in all, of the MAC its tag. The hub holds its tickets to it; a record does not know it.
+    // At most so many bytes are drawn in all, of the MAC its tag. The hub holds its tickets to it; a record asks for it only to judge a tag.
     pub fn most_drawn(self) -> usize
         ensures { λ r. ⌜ r ≡ row self .mostDrawn ⌝ }
     {

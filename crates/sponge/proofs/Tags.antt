@@ -20,8 +20,8 @@ use Rattle.word.proofs.Bytes.{length-bytesFrom, take-bytesFrom, by-bytes, each-
 use Rattle.sponge.specs.declared.record.Record.{Record}
 use Rattle.sponge.specs.Record.{block, tagMatches}
 
--- for the reader: the comparison of a tag is equality of lists, both ways: it passes where the tag is as many first bytes of the block as are drawn at most, and nowhere
--- else
+-- for the reader: the comparison of a tag is equality of lists, both ways: it passes where the tag is as many first bytes of the block as are drawn at most,
+-- and nowhere else
 pub tag-both-ways : (tag : List ℕ) (r : Record)
     → (tagMatches tag r ≡ true → tag ≡ take (row (r .mode) .mostDrawn) (block r)) × (tag ≡ take (row (r .mode) .mostDrawn) (block r) → tagMatches tag r ≡ true)
 unfolding tagMatches

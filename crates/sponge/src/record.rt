@@ -7,7 +7,7 @@ use mode::Mode;
 ghost use mathlib.Core.Path.{_≡_};
 ghost use Rattle.sponge.specs.Record as spec;
 
-// The wider fields first: so there is one gap, of two bytes, and a record has 72.
+// The wider fields first: so there is one gap, of one byte, and a record has 72.
 pub struct Record {
     // x0 to x4
     words: [u64; 5],
@@ -40,7 +40,7 @@ impl Record {
     }
 
     // The record of a ticket just opened: the start word, the key and zeros, and one run of the outer rounds. That the key has the mode's length, and
-    // the MAC a tag length of the paper's, is the caller's to test.
+    // the MAC a tag length of 8 to 16, is the caller's to test.
     pub fn fresh(ticket: u32, mode: Mode, key: &[u8]) -> Record
         ensures { λ r. ⌜ r ≡ spec.fresh ticket mode (now (key .entry)) ⌝ }
     {

@@ -83,7 +83,8 @@ pub extern "C" fn testbench_sponge(
     drawn.runs()
 }
 
-// Whether a tag is the MAC of a message, with tags of that length, whole: 1, or 0. A block has sixteen bytes, so that where tags are to be longer, one of sixteen passes.
+// Whether a tag is the MAC of a message, with tags of that length, whole: 1, or 0. A block has sixteen bytes, so that where tags are to be longer, one of
+// sixteen passes.
 #[no_mangle]
 pub extern "C" fn testbench_tag(key: &[u8], message: &[u8], tag: &[u8], tag_length: u8) -> u32
     ensures { λ r. ⌜ r ≡ tagAnswer (now (key .entry)) (now (message .entry)) «tag_length» (now (tag .entry)) ⌝ }

@@ -1,5 +1,6 @@
-// Prints the outputs of the six modes and of the short function, and MACs with tags of all lengths, for messages of many lengths, whose bytes count up from 0. The stored output,
-// crates/vectors/stdout, is the outside vectors: known answers that were not made with this code. All of it is put into one buffer, which is written once.
+// Prints the outputs of the six modes and of the short function, and MACs with tags of all lengths, for messages of many lengths, whose bytes count up from 0.
+// The stored output, crates/vectors/stdout, is the outside vectors: known answers that were not made with this code. All of it is put into one buffer, which is
+// written once.
 use mode::Mode;
 use sponge::Record;
 ghost use mathlib.Core.Path.{_≡_};

@@ -29,7 +29,8 @@ pub fn permute_chain(x0: u64, rounds: u64, times: u64) -> u64 {
     unsafe { testbench_permute_chain(x0, rounds, times) }
 }
 
-/// The output of a mode for a message, as much as is lent, and the runs made: the message is fed in two parts, and the output drawn in two. The tag length counts in mode 2 alone.
+/// The output of a mode for a message, as much as is lent, and the runs made: the message is fed in two parts, and the output drawn in two. The tag length
+/// counts in mode 2 alone.
 pub fn sponge(
     mode: u32,
     tag_length: u8,
@@ -84,8 +85,8 @@ pub fn feeds_in_place(ticket: u32, bytes: &[u8], times: usize) -> u64 {
     unsafe { testbench_feeds_in_place(ticket, bytes.as_ptr(), bytes.len(), times) }
 }
 
-/// The output of a ticket of a mode for a message, as much as is lent, and the runs made: the message is fed in three parts, in place. The tag length counts in mode 2 alone. 0 where it is
-/// refused.
+/// The output of a ticket of a mode for a message, as much as is lent, and the runs made: the message is fed in three parts, in place. The tag length counts in
+/// mode 2 alone. 0 where it is refused.
 pub fn parts_in_place(
     mode: u32,
     tag_length: u32,

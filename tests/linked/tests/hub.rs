@@ -1,4 +1,5 @@
-//! Feeds through the hub: run counts, by value and in place, beside the plain machine; messages in parts, in place, beside the one-shot reference; and tickets with tags of every length.
+//! Feeds through the hub: run counts, by value and in place, beside the plain machine; messages in parts, in place, beside the one-shot reference; and tickets
+//! with tags of every length.
 use linked::{feeds_by_value, feeds_in_place};
 use reference::machine::{Call, Machine, TAG_LENGTHS};
 use reference::numbers::Numbers;

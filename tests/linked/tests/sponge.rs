@@ -249,7 +249,8 @@ fn the_vectors_of_tag_lengths_are_judged() {
     }
 }
 
-/// With tags of a length only the whole tag passes: not its first bytes, and not what the sponge would give next. Of a tag longer than a block the block is the whole.
+/// With tags of a length only the whole tag passes: not its first bytes, and not what the sponge would give next. Of a tag longer than a block the block is the
+/// whole.
 #[test]
 fn tags_of_every_length() {
     for length in [0, 1, 31, 32, 33, 100] {
@@ -278,7 +279,7 @@ fn tags_of_every_length() {
     }
 }
 
-/// The first bytes of a longer tag are no tag of their length, and no longer one.
+/// The first bytes of a longer tag are no tag of their own length, and none of the longer one's.
 #[test]
 fn cut_tags() {
     for message in [0, 1, 31, 32, 33, 100].map(counting) {

@@ -1,4 +1,5 @@
-//! Document 01's plain machine, with the changes K1 and K2, written from its paragraph and its lists of checks alone: it holds what was said, and works every output out from the beginning.
+//! Document 01's plain machine, with the changes K1 and K2, written from its paragraph and its lists of checks alone: it holds what was said, and works every
+//! output out from the beginning.
 use crate::{permute, sponge, Mode, MODES};
 use std::ops::RangeInclusive;
 

@@ -1,4 +1,5 @@
-//! Document 01's script program, with the tag lengths of change request K2, written from its section alone: lines are read into calls, the plain machine answers them, and the answers are written out.
+//! Document 01's script program, with the tag lengths of change request K2, written from its section alone: lines are read into calls, the plain machine
+//! answers them, and the answers are written out.
 use crate::machine::{Answer, Call, Machine};
 
 const NAMES: &[u8] = b"call number bytes";

@@ -66,7 +66,8 @@ pub const XOFA: Mode = Mode {
 pub const MODES: [&Mode; 6] = [&PRF, &MAC, &HASH, &XOF, &HASHA, &XOFA];
 
 impl Mode {
-    /// ASCON-MAC with tags of so many bytes: as the PRF, with the tag's length in bits in the start value, and no more output. Change request K2 has those of 8 to 16.
+    /// ASCON-MAC with tags of so many bytes: as the PRF, with the tag's length in bits in the start value, and no more output. Change request K2 has those of 8
+    /// to 16.
     pub const fn mac(tag_length: usize) -> Mode {
         Mode {
             number: 2,

@@ -180,7 +180,7 @@ const FIELDS: [Field; 22] = [
     ("draw 1", "0400", "no 17 -", &["0401"]),
     ("draw 9", "0400", "no 11 -", &["0401"]),
     // The tag length is a byte of the field, in hex as all others, and no field of its own.
-    ("open 2", TAGS_OF_16, "ok 3 -", TAG_LENGTHS),
+    ("open 2", TAGS_OF_16, "ok 3 -", LENGTH_BYTES),
     ("open 2", TAGS_OF_7, "no 21 -", &[NO_TAG_LENGTH]),
     ("open 2", "-", "no 2 -", &["--", "0", "- 10", "-10"]),
     // Calls that have no bytes.
@@ -194,7 +194,7 @@ const COUNTS: &[Text] = &[
     "0x10", "+000", "-000", "000-", "000A", "00FF", "00000400",
 ];
 
-const TAG_LENGTHS: &[Text] = &[
+const LENGTH_BYTES: &[Text] = &[
     NO_TAG_LENGTH,
     "000102030405060708090a0b0c0d0e0f 10",
     "000102030405060708090a0b0c0d0e0f 16",

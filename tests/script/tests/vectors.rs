@@ -1,4 +1,5 @@
-//! The outside vectors, through the program: the messages fed in scraps of 0, 1, 2, .. bytes, and the outputs drawn, in two parts. Tags are checked, too, whole, damaged and in other lengths.
+//! The outside vectors, through the program: the messages fed in scraps of 0, 1, 2, .. bytes, and the outputs drawn, in two parts. Tags are checked, too,
+//! whole, damaged and in other lengths.
 use reference::machine::TAG_LENGTHS;
 use reference::script::field;
 use reference::{counting, mac_lengths, published, vectors, Mode, Vector, KEY};

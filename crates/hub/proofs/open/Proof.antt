@@ -12,7 +12,7 @@ use Rattle.mode.specs.declared.Named.the-variants.{Is}
 use Rattle.mode.specs.Mode.{row, named}
 use Rattle.mode.proofs.Modes.{none-renamed, Renamed, renamed}
 use Rattle.calls.specs.Answer.{opened}
-use Rattle.calls.specs.Checks.{wrongTag}
+use Rattle.calls.specs.Checks.{wrongTagLength}
 use Rattle.hub.specs.Hub.{replyOf}
 use Rattle.hub.proofs.Locating.{unmapped, absent-past, absent-within}
 use Rattle.hub.proofs.Calls.{named-whole, wrong-alike, open-1, open-2, open-21, open-14, open-13, open-done}
@@ -31,8 +31,8 @@ right-key : (c : tie.Else1) → eqb (length (c .before .before .before .before .
 right-key c = eq-eqb _ _ (c .if1 .left ∙ c .before .key-length .ensures)
 
 -- where the tag length is not wrong the two are one
-right-tag : (c : tie.Else2) → wrongTag (Is (c .before .before .before .before .before .named .given .0 .0)) (c .before .before .before .before .before .before .before .before .before .args .tag-length) ≡ false
-right-tag c = sym (c .before .wrong-tag .ensures) ∙ c .if2 .left
+right-tag : (c : tie.Else2) → wrongTagLength (Is (c .before .before .before .before .before .named .given .0 .0)) (c .before .before .before .before .before .before .before .before .before .args .tag-length) ≡ false
+right-tag c = sym (c .before .wrong-tag-length .ensures) ∙ c .if2 .left
 
 is-mode : (c : tie.Else2) → named (c .before .before .before .before .before .before .before .before .before .args .mode) (c .before .before .before .before .before .before .before .before .before .args .tag-length) ≡ Is (c .before .before .before .before .before .named .given .0 .0)
 is-mode c = named-whole _ _ _ (low-mode (c .before .before .before .before .before)) (right-tag c)
@@ -72,8 +72,8 @@ returns-2 c =
     let wrong = ne-eqb _ _ (λ e. c .before .if1 .taken (e ∙ m .key ∙ sym (c .before .before .key-length .ensures))) in
     c .refuse2 .ensures ∙ sym (ap replyOf (open-2 _ _ _ _ _ (m .is) wrong))
 
-wrong-tag-requires : tie.Need-wrong-tag-requires
-wrong-tag-requires c κs = search needs
+wrong-tag-length-requires : tie.Need-wrong-tag-length-requires
+wrong-tag-length-requires c κs = search needs
 
 refuse-requires-3 : tie.Need-refuse-requires-3
 refuse-requires-3 c κs = search needs
@@ -83,7 +83,7 @@ returns-3 c =
     let low = c .before .before .before .before .before .before in
     let m = meant low in
     let key = ap (eqb _) (m .key) ∙ right-key (c .before .before .before) in
-    let wrong = wrong-alike (m .other) (low .named .given .0 .0) (low .before .before .before .before .args .tag-length) (m .number) ∙ sym (c .before .before .wrong-tag .ensures) ∙ c .before .if2 .taken in
+    let wrong = wrong-alike (m .other) (low .named .given .0 .0) (low .before .before .before .before .args .tag-length) (m .number) ∙ sym (c .before .before .wrong-tag-length .ensures) ∙ c .before .if2 .taken in
     c .refuse3 .ensures ∙ sym (ap replyOf (open-21 _ _ _ _ _ (m .is) key wrong))
 
 refuse-requires-4 : tie.Need-refuse-requires-4
@@ -146,7 +146,7 @@ open-spec =
     key-length-requires
     refuse-requires-2
     returns-2
-    wrong-tag-requires
+    wrong-tag-length-requires
     refuse-requires-3
     returns-3
     refuse-requires-4

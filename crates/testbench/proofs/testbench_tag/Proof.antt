@@ -1,4 +1,4 @@
--- `testbench::testbench_tag` meets its contract: the block that is drawn from when feeding has ended is the MAC.
+-- `testbench::testbench_tag` meets its contract: the block that is drawn from when feeding has ended begins with the MAC.
 -- Assumes nothing.
 use mathlib.Core.Bool.{Bool, cond}
 use mathlib.Core.Path.{_≡_, sym, ap, _∙_}

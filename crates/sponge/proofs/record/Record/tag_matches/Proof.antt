@@ -20,15 +20,15 @@ Inv-loop tag words difference₀ i₀ difference i = (i ≤ length tag) × (diff
 abbrev μ-loop : tie.MeasureT-loop
 μ-loop tag words difference₀ i₀ difference i = length tag - i
 
-whole-tag-requires : tie.Need-whole-tag-requires Inv-loop μ-loop
-whole-tag-requires c κs = search needs
+tag-length-requires : tie.Need-tag-length-requires Inv-loop μ-loop
+tag-length-requires c κs = search needs
 
 returns : tie.Need-returns Inv-loop μ-loop
 unfolding tagMatches block
 returns c =
     let a = c .before .before .before .before .args in
     sym (another-length (a .tag .now) (a .self .words) (row (a .self .mode) .mostDrawn) (row (a .self .mode) .drawRate)
-    (λ e. omega (arith, c .before .whole-tag .ensures, e)))
+    (λ e. omega (arith, c .before .tag-length .ensures, e)))
 
 loop-holds : tie.Need-loop-holds Inv-loop μ-loop
 loop-holds c = (search needs, (λ e. below-none _), λ e. refl)
@@ -69,7 +69,7 @@ returns-2 c =
     let tag = a .tag .now in
     let all : last .i ≡ length tag = omega arith in
     judged tag (a .self .words) (row (a .self .mode) .mostDrawn) (row (a .self .mode) .drawRate) (last .difference)
-    (omega (arith, c .before .before .before .whole-tag .ensures))
+    (omega (arith, c .before .before .before .tag-length .ensures))
     (rw all at (last .inv .1)) (rw all at (last .inv .2))
 
 pub tag-matches-spec : {M : Type 1} → statement M
@@ -78,7 +78,7 @@ tag-matches-spec =
     (tie.spec
     Inv-loop
     μ-loop
-    whole-tag-requires
+    tag-length-requires
     returns
     loop-holds
     shared-slice-read-difference

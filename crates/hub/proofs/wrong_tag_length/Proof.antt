@@ -1,11 +1,11 @@
--- `hub::wrong_tag` meets its contract.
+-- `hub::wrong_tag_length` meets its contract.
 -- Assumes nothing.
 use mathlib.Core.Path.{_≡_, sym, _∙_}
 use borrow.Author.Needs.{needs}
 use borrow.Author.Tests.{eq-eqb, ne-eqb, lt-ltb, le-ltb}
 use Rattle.mode.specs.Mode.{numberOf}
-use Rattle.hub.proofs.wrong_tag.Statement.{statement}
-use Rattle.hub.proofs.wrong_tag.Tie as tie
+use Rattle.hub.proofs.wrong_tag_length.Statement.{statement}
+use Rattle.hub.proofs.wrong_tag_length.Tie as tie
 
 number-requires : tie.Need-number-requires
 number-requires c κs = search needs
@@ -29,5 +29,5 @@ returns-3 c =
     let long = le-ltb _ _ (c .if2 .left) in
     rw (two, long)
 
-pub wrong-tag-spec : {M : Type 1} → statement M
-wrong-tag-spec = tie.close (tie.spec number-requires returns returns-2 returns-3)
+pub wrong-tag-length-spec : {M : Type 1} → statement M
+wrong-tag-length-spec = tie.close (tie.spec number-requires returns returns-2 returns-3)
