@@ -1,5 +1,5 @@
--- Document 01's third demand, as statements about anything that answers calls: S is a hub, or another machine, `run` what a call makes of it and `empty` what a list
--- begins with.
+-- Document 01's third demand, and what request K2 says of tag lengths and verdicts, as statements about anything that answers calls: S is a hub, or another
+-- machine, `run` what a call makes of it and `empty` what a list begins with.
 -- Assumes nothing.
 use mathlib.Core.Bool.{true, false}
 use mathlib.Core.Path.{_≡_}
