@@ -8,7 +8,7 @@ use Prim.Native.Nat.{ℕ, _+_, _^_, _≤_, _<_}
 use native.Mathlib.Omega.{arith}
 use borrow.Author.Tests.{eq-eqb, ne-eqb, ltb-false}
 use lib.Dec.{eqb, ltb}
-use lib.ListN.{length, take, length-take, length-drop}
+use lib.ListN.{length, take}
 use lib.Seq.{length-take-le, take-all}
 use Rattle.checks.specs.Buffers.{written}
 use Rattle.checks.specs.Equality.{same}
@@ -97,10 +97,6 @@ module _ (key frame : List ℕ) (body : ℕ) where
   length-tagFor = ap length (sym tag-drawn) ∙ length-nextBytes 16 fedBody
 
   module _ (room : body + 16 ≤ length frame) where
-    pub length-tagIn : length (tagIn frame body) ≡ 16
-    unfolding tagIn
-    length-tagIn = simp (length-take, length-drop) (omega arith)
-
     -- a tag is judged by all its bytes
     pub verdict : tagMatches (tagIn frame body) fedBody ≡ same (tagIn frame body) (tagFor key frame body)
     unfolding tagFor
