@@ -57,12 +57,27 @@ fn substitute(s: [u64; 5]) -> [u64; 5]
     [y0 ^ y4, y1 ^ y0, !y2, y3 ^ y2, y4]
 }
 
-// The constant of round i: f0, e1, .. 4b.
+// The constant of round i: table 3 of "Ascon PRF, MAC, and Short-Input MAC" (source document 003), a case for each row, in its order (the left half, then the
+// right) and with its digits. Twelve rounds begin with row 0; eight begin with row 4 and six with row 6, as the table of the slides "ASCON" (source document 001)
+// shows beside the same constants. All end with row 11, whose case is the last: i is below 12.
 fn round_constant(i: u64) -> u64
     requires { ⌜ i < 12 ⌝ }
     ensures { λ r. ⌜ r ≡ spec.roundConstant i ⌝ }
 {
-    240 - 15 * i
+    match i {
+        0 => 0x00000000000000f0,
+        1 => 0x00000000000000e1,
+        2 => 0x00000000000000d2,
+        3 => 0x00000000000000c3,
+        4 => 0x00000000000000b4,
+        5 => 0x00000000000000a5,
+        6 => 0x0000000000000096,
+        7 => 0x0000000000000087,
+        8 => 0x0000000000000078,
+        9 => 0x0000000000000069,
+        10 => 0x000000000000005a,
+        11.. => 0x000000000000004b,
+    }
 }
 
 // Round i of the twelve.
