@@ -12,7 +12,4 @@ NoneBelow i (suc k) = NoneBelow i k × (i ≢ k)
 -- so it is k or more
 pub none-below : {i : ℕ} (k : ℕ) → NoneBelow i k → k ≤ i
 none-below zero none = omega arith
-none-below {i} (suc k) none =
-    let earlier : k ≤ i = none-below k (none .0) in
-    let here : i ≢ k = none .1 in
-    omega arith
+none-below (suc k) none = omega (arith, none-below k (none .0), none .1)
