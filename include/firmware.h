@@ -15,8 +15,8 @@
  *     - Each pointer is valid for as many bytes as the length after it says, and is not null, not even for a length of 0.
  *     - The buffer that a call writes overlaps no other buffer of the call.
  * Nothing is kept between calls and nothing is allocated, so that any number of threads may call at once.
- * The code branches on lengths and on the verdict, and on no byte of a key, a message, a body or a tag, and no address depends on one. That is so by its text and is not
- * proved; of the compiled code tests/c/secrets.c finds it under valgrind.
+ * The code branches on lengths, on the number of a round and on the verdict, and on no byte of a key, a message, a body or a tag, and no address depends on one. That is so
+ * by its text and is not proved; of the compiled code tests/c/secrets.c finds it under valgrind.
  * The stack may keep copies of a key's bytes after a call. */
 #ifndef FIRMWARE_H
 #define FIRMWARE_H

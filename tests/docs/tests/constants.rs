@@ -1,4 +1,4 @@
-//! How a table of the papers is printed in the code, where no proof can see it.
+//! How a table of the papers is written in the code, which proofs see only in part.
 use docs::read;
 
 /// Table 3 of "Ascon PRF, MAC, and Short-Input MAC" (source document 003), line by line.

@@ -9,7 +9,7 @@ use Rattle.permutation.specs.Permutation.{roundConstant}
 use Rattle.permutation.proofs.round_constant.Statement.{statement}
 use Rattle.permutation.proofs.round_constant.Tie as tie
 
--- row k: the constant is 240 - 15 * k, k is one of the twelve, and the case is for k. As no round asks for a row 12, nothing but the second would refuse it
+-- a case for row k: its constant is 240 - 15 * k, k is one of the twelve, and i is k. As i is never 12, only the second of these refuses a row 12
 row : {i constant : ℕ} (k : ℕ) → constant ≡ roundConstant k → T (ltb k 12) → i ≡ k → constant ≡ roundConstant i
 row k right numbered here = right ∙ ap roundConstant (sym here)
 
