@@ -144,6 +144,13 @@ static int tag_matches(const struct record *r, size_t count) {
     return difference == 0;
 }
 
+/* Closes a record's ticket, and gives its run count. */
+static uint64_t release(struct record *r) {
+    r->ticket = 0;
+    hub.closed_runs += r->runs;
+    return r->runs;
+}
+
 /* Finds an open ticket's record; gives the refusal, or 0. */
 static uint32_t find(uint32_t ticket, struct record **r) {
     if (ticket == 0 || ticket > hub.issued) return 11;
@@ -191,14 +198,13 @@ static struct answer call_check(struct record *r, size_t tag) {
     if (r->mode != MAC) return no(18);
     if (tag != r->most_drawn) return no(4);
     end_feeding(r);
-    return (struct answer){tag_matches(r, tag) ? "pass" : "fail", r->runs, 0};
+    const char *verdict = tag_matches(r, tag) ? "pass" : "fail";
+    return (struct answer){verdict, release(r), 0};
 }
 
 static struct answer call_close(struct record *r, size_t none) {
     (void)none;
-    r->ticket = 0;
-    hub.closed_runs += r->runs;
-    return ok(r->runs);
+    return ok(release(r));
 }
 
 /* A call on a ticket. */

@@ -20,7 +20,7 @@ use Rattle.checks.specs.Buffers.{written}
 use Rattle.checks.specs.Equality.{same}
 use Rattle.calls.specs.Checks.{Standing, mostOpen, openChecks, ticketChecks, feedOwn, feedChecks, drawOwn, drawChecks, checkOwn, checkChecks}
 use Rattle.calls.specs.Call.{Call, Open, Feed, Draw, Check, Close, Sum, Response, Step, step, refuse, Event, events}
-use Rattle.calls.specs.Machine.{Entry, Machine, emptyMachine, runsOf, outputOf, newEntry, afterFeed, afterDraw, afterClose, entryOf, standingOf, put}
+use Rattle.calls.specs.Machine.{Entry, Machine, emptyMachine, runsOf, outputOf, newEntry, afterFeed, afterDraw, afterClose, afterCheck, entryOf, standingOf, put}
 use Rattle.calls.specs.Machine.{openCount, admit, openMachine, feedMachine, drawMachine, checkMachine, closeMachine, sumMachine, machine}
 use Rattle.calls.specs.Lists.{Issue, issuedBy, issueBy, issueOf, isOn, opens, afterIssue, names, naming, callsOf}
 use Rattle.calls.specs.Law.{Apart}
@@ -32,18 +32,18 @@ use Rattle.calls.proofs.Sound.{put-here, put-other, withNew, new-here, 
 -- ---- a call on a ticket
 
 -- the buffer that it lends, its checks after 11 and 12, and of an entry that passes them: what becomes of it, the answer and the buffer
-record Act : Type 0 where
-  lent : List ℕ
-  further : Standing → List OneCheck
-  after : Entry → Entry
-  answer : Entry → Answer
-  buffer : Entry → List ℕ
+pub record Act : Type 0 where
+  pub lent : List ℕ
+  pub further : Standing → List OneCheck
+  pub after : Entry → Entry
+  pub answer : Entry → Answer
+  pub buffer : Entry → List ℕ
 
 -- an open and a sum name no ticket: of them this is not asked
-abbrev idle : Act
+abbrev pub idle : Act
 idle = record { lent = []; further = λ s. []; after = λ e. e; answer = λ e. counted 0; buffer = λ e. [] }
 
-abbrev actOf : Call → Act
+abbrev pub actOf : Call → Act
 actOf (Open mode key tagLength) = idle
 actOf (Feed t bytes) =
     record { lent = []; further = λ s. feedOwn s bytes; after = afterFeed bytes; answer = λ e. counted (runsOf (afterFeed bytes e)); buffer = λ e. [] }
@@ -59,8 +59,8 @@ actOf (Check t tag) =
     record {
       lent = [];
       further = λ s. checkOwn s tag;
-      after = afterDraw 0;
-      answer = λ e. judged (same tag (outputOf (afterDraw 0 e) (row (e .mode) .mostDrawn))) (runsOf (afterDraw 0 e));
+      after = afterCheck;
+      answer = λ e. judged (same tag (outputOf (afterCheck e) (row (e .mode) .mostDrawn))) (runsOf (afterCheck e));
       buffer = λ e. [];
     }
 actOf (Close t) = record { lent = []; further = λ s. []; after = afterClose; answer = λ e. counted (runsOf (afterClose e)); buffer = λ e. [] }
@@ -68,7 +68,7 @@ actOf Sum = idle
 
 -- an entry keeps its number
 keeps : (c : Call) (e : Entry) → actOf c .after e .number ≡ e .number
-unfolding afterFeed afterDraw afterClose
+unfolding afterFeed afterDraw afterClose afterCheck
 keeps (Open mode key tagLength) e = refl
 keeps (Feed t bytes) e = refl
 keeps (Draw t buffer place count) e = refl
@@ -78,10 +78,10 @@ keeps Sum e = refl
 
 -- ---- on an entry alone, and on a machine
 
-abbrev checksOf : Act → Standing → List OneCheck
+abbrev pub checksOf : Act → Standing → List OneCheck
 checksOf a s = ticketChecks s ++ a .further s
 
-abbrev onEntry : Act → Entry → Step Entry
+abbrev pub onEntry : Act → Entry → Step Entry
 onEntry a e = checked (refuse e (a .lent)) (checksOf a (standingFor e)) (step (a .after e) (a .answer e) (a .buffer e))
 
 abbrev stored : Act → ℕ → Machine → Entry → Step Machine
@@ -92,7 +92,7 @@ onMachine a t m = checked (refuse m (a .lent)) (checksOf a (standingOf t m)) (st
 
 -- a call that names t is its act on t
 names-act : (t : ℕ) (c : Call) (m : Machine) → names t c ≡ true → machine c m ≡ onMachine (actOf c) t m
-unfolding machine feedMachine drawMachine checkMachine closeMachine ticketChecks feedChecks drawChecks checkChecks afterDraw
+unfolding machine feedMachine drawMachine checkMachine closeMachine ticketChecks feedChecks drawChecks checkChecks afterDraw afterClose afterCheck
 names-act t (Open mode key tagLength) m h = absurd (false≢true h)
 names-act t (Feed u bytes) m h = ap (λ (v : ℕ). machine (Feed v bytes) m) (eqb-true u t h)
 names-act t (Draw u buffer place count) m h = ap (λ (v : ℕ). machine (Draw v buffer place count) m) (eqb-true u t h)
@@ -101,12 +101,12 @@ names-act t (Close u) m h = ap (λ (v : ℕ). machine (Close v) m) (eqb-true u t
 names-act t Sum m h = absurd (false≢true h)
 
 -- what a call gets from a machine it gets from the ticket's entry, and the entry after the one is that after the other
-record Match (t : ℕ) (s : Step Machine) (o : Step Entry) : Type 0 where
-  gets : s .response ≡ o .response
-  entry : all number t (s .after .entries) ≡ o .after ∷ []
+pub record Match (t : ℕ) (s : Step Machine) (o : Step Entry) : Type 0 where
+  pub gets : s .response ≡ o .response
+  pub entry : all number t (s .after .entries) ≡ o .after ∷ []
 
 -- a call that names t
-call-same : (t : ℕ) (c : Call) (m : Machine) (e : Entry) → names t c ≡ true → all number t (m .entries) ≡ e ∷ [] → Match t (machine c m) (onEntry (actOf c) e)
+pub call-same : (t : ℕ) (c : Call) (m : Machine) (e : Entry) → names t c ≡ true → all number t (m .entries) ≡ e ∷ [] → Match t (machine c m) (onEntry (actOf c) e)
 call-same t c m e n h = rw (names-act t c m n, standing-is t m e h, entry-is t m e h) (go (actOf c) (keeps c e))
   where
     go : (a : Act) → a .after e .number ≡ e .number → Match t (checked (refuse m (a .lent)) (checksOf a (standingFor e)) (stored a t m e)) (onEntry a e)
@@ -118,18 +118,17 @@ call-same t c m e n h = rw (names-act t c m n, standing-is t m e h, entry-is t m
 
 -- ---- calls that do not name t leave its entry
 
-Leaves : ℕ → Machine → Step Machine → Type 0
+abbrev pub Leaves : ℕ → Machine → Step Machine → Type 0
 Leaves t m s = all number t (s .after .entries) ≡ all number t (m .entries)
 
 act-other : (c : Call) (t u : ℕ) (m : Machine) → Sound m → eqb u t ≡ false → Leaves t m (onMachine (actOf c) u m)
-unfolding Leaves
 act-other c t u m sound n =
     on-ticket (Leaves t m) u (actOf c .lent) m sound (actOf c .further) (stored (actOf c) u m) (λ k. refl)
     (λ e h good pass. put-other u m e (actOf c .after e) h (keeps c e ∙ named-is number u (m .entries) e [] h) t (λ q. eqb-false u t n (sym q)))
 
 -- an open makes an entry under the next number
 open-other : (t mode : ℕ) (key : List ℕ) (tagLength : ℕ) (m : Machine) → Sound m → m .next ≢ t → Leaves t m (openMachine mode key tagLength m)
-unfolding Leaves openMachine admit withNew
+unfolding openMachine admit withNew
 open-other t mode key tagLength m sound n =
     checked-each (Leaves t m) (openChecks (named mode tagLength) key tagLength (length (m .entries)) (leb mostOpen (openCount m))) (refuse m [])
     (admit (named mode tagLength) key m) (λ k. refl) (λ p. go (named mode tagLength))
@@ -138,8 +137,8 @@ open-other t mode key tagLength m sound n =
     go (Is mode) = new-other m sound mode key t n
     go NoMode = refl
 
-call-other : (t : ℕ) (c : Call) (m : Machine) (e : Entry) → Sound m → all number t (m .entries) ≡ e ∷ [] → names t c ≡ false → Leaves t m (machine c m)
-unfolding Leaves machine feedMachine drawMachine checkMachine closeMachine sumMachine ticketChecks feedChecks drawChecks checkChecks afterDraw
+pub call-other : (t : ℕ) (c : Call) (m : Machine) (e : Entry) → Sound m → all number t (m .entries) ≡ e ∷ [] → names t c ≡ false → Leaves t m (machine c m)
+unfolding machine feedMachine drawMachine checkMachine closeMachine sumMachine ticketChecks feedChecks drawChecks checkChecks afterDraw afterClose afterCheck
 call-other t (Open mode key tagLength) m e sound h n = open-other t mode key tagLength m sound (λ q. nil≢cons (sym (sound .above t (omega arith)) ∙ h))
 call-other t (Feed u bytes) m e sound h n = act-other (Feed u bytes) t u m sound n
 call-other t (Draw u buffer place count) m e sound h n = act-other (Draw u buffer place count) t u m sound n
@@ -156,7 +155,7 @@ alone e calls = events (λ (c : Call). onEntry (actOf c)) e calls
 -- the calls that name the ticket get what they get on its entry alone
 entered-alone : (t : ℕ) (calls : List Call) (m : Machine) (e : Entry) → Sound m → all number t (m .entries) ≡ e ∷ []
     → naming t (events machine m calls) ≡ alone e (callsOf (naming t (events machine m calls)))
-unfolding events naming callsOf Leaves
+unfolding events naming callsOf
 entered-alone t [] m e sound h = refl
 entered-alone t (c ∷ cs) m e sound h =
     go (λ e' h'. entered-alone t cs (machine c m .after) e' (sound-step c m sound) h') (names t c) refl

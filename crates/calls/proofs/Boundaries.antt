@@ -3,7 +3,7 @@
 -- Assumes nothing.
 use mathlib.Core.Bool.{Bool, true, false}
 use mathlib.Core.Path.{_≡_, refl}
-use mathlib.Core.List.{List, [], _∷_, map}
+use mathlib.Core.List.{List, [], _∷_, _++_, map}
 use Prim.Native.Nat.{ℕ, _+_, _/_, max}
 use lib.ListN.{length, replicate}
 use Rattle.mode.specs.declared.Mode.{Mode}
@@ -16,7 +16,8 @@ use Rattle.checks.specs.Equality.{same}
 use Rattle.calls.specs.Checks.{openChecks, ticketChecks, feedOwn, feedChecks, drawOwn, drawChecks, checkOwn, checkChecks}
 use Rattle.calls.specs.Call.{Call, Open, Feed, Draw, Check, Close, Sum, Event, events}
 use Rattle.calls.specs.Keyed.{find, total}
-use Rattle.calls.specs.Machine.{emptyMachine, formula, runsOf, outputOf, newEntry, afterFeed, afterDraw, afterClose, placeOf, entryOf, standingOf, put}
+use Rattle.calls.specs.Law.{upFrom}
+use Rattle.calls.specs.Machine.{emptyMachine, formula, runsOf, outputOf, newEntry, afterFeed, afterDraw, afterClose, afterCheck, placeOf, entryOf, standingOf, put}
 use Rattle.calls.specs.Machine.{openCount, admit, openMachine, feedMachine, drawMachine, checkMachine, closeMachine, sumMachine, machine}
 
 -- a list of calls, each with an answer
@@ -110,9 +111,10 @@ drawing =
     -- 12 before 3 and 17
     ∷ (Close 1, counted 5) ∷ (Draw 1 [] 0 1, refused 12) ∷ (Draw 1 (zeros 1) 0 1, refused 12) ∷ (Sum, summed 28) ∷ []
 
--- whether a tag is the MAC of 32 zeros under the key of zeros, with tags of so many bytes: left as it is, no run is computed
-abbrev verdict : ℕ → List ℕ → Bool
-verdict tagLength tag = same tag (oneShot (row (Mac tagLength)) (zeros 16) (zeros 32) tagLength)
+-- whether a tag is the MAC of n zeros under the key of zeros, with tags of so many bytes: left as it is, no run is computed, and the answers hold for either
+-- verdict
+abbrev verdict : ℕ → ℕ → List ℕ → Bool
+verdict tagLength n tag = same tag (oneShot (row (Mac tagLength)) (zeros 16) (zeros n) tagLength)
 
 abbrev checking : Table
 checking =
@@ -123,20 +125,42 @@ checking =
     -- only of mode 2; 18 before 4
     ∷ (Check 2 (zeros 16), refused 18) ∷ (Check 3 (zeros 16), refused 18) ∷ (Check 4 (zeros 16), refused 18) ∷ (Check 2 (zeros 7), refused 18)
     ∷ (Check 3 (zeros 17), refused 18) ∷ (Check 5 (zeros 16), refused 18) ∷ (Check 6 (zeros 16), refused 18)
-    -- a tag of the ticket's own length; 32 bytes fed are a block
+    -- a tag of the ticket's own length
     ∷ (Check 1 [], refused 4) ∷ (Check 1 (zeros 8), refused 4) ∷ (Check 1 (zeros 15), refused 4) ∷ (Check 1 (zeros 17), refused 4)
     ∷ (Check 7 [], refused 4) ∷ (Check 7 (zeros 7), refused 4) ∷ (Check 7 (zeros 9), refused 4) ∷ (Check 7 (zeros 16), refused 4)
-    ∷ (Feed 1 (zeros 31), counted 1) ∷ (Feed 1 (zeros 1), counted 2) ∷ (Check 1 (zeros 16), judged (verdict 16 (zeros 16)) 3)
-    ∷ (Feed 7 (zeros 32), counted 2) ∷ (Check 7 (zeros 8), judged (verdict 8 (zeros 8)) 3)
-    -- an accepted check ends feeding, and draws nothing
-    ∷ (Feed 1 [], refused 15) ∷ (Draw 1 (zeros 17) 0 17, refused 17) ∷ (Draw 1 (zeros 16) 0 16, counted 3)
-    ∷ (Draw 7 (zeros 9) 0 9, refused 17) ∷ (Draw 7 (zeros 8) 0 8, counted 3)
+    -- a refused check closes nothing and ends no feeding, and the sum stays; 32 bytes fed are a block
+    ∷ (Sum, summed 7) ∷ (Feed 1 (zeros 31), counted 1) ∷ (Feed 1 (zeros 1), counted 2) ∷ (Feed 7 (zeros 32), counted 2) ∷ (Check 1 (zeros 7), refused 4)
+    ∷ (Sum, summed 9)
+    -- an accepted check makes the run that ends feeding, and its count and the sum have that run
+    ∷ (Check 1 (zeros 16), judged (verdict 16 32 (zeros 16)) 3) ∷ (Sum, summed 10)
+    -- and closes the ticket: 12 before every other number, and the sum stays
+    ∷ (Check 1 (zeros 16), refused 12) ∷ (Check 1 (zeros 7), refused 12) ∷ (Close 1, refused 12) ∷ (Feed 1 [], refused 12) ∷ (Draw 1 (zeros 16) 0 16, refused 12)
+    ∷ (Draw 1 [] 0 17, refused 12) ∷ (Sum, summed 10)
+    -- after a draw it makes no further run; a second check is refused, and so is a close
+    ∷ (Draw 7 (zeros 8) 0 5, counted 3) ∷ (Sum, summed 11) ∷ (Check 7 (zeros 9), refused 4) ∷ (Draw 7 (zeros 8) 0 3, counted 3)
+    ∷ (Check 7 (zeros 8), judged (verdict 8 32 (zeros 8)) 3) ∷ (Sum, summed 11) ∷ (Check 7 (zeros 8), refused 12) ∷ (Close 7, refused 12) ∷ (Sum, summed 11)
     -- 12 before 18 and 4
-    ∷ (Close 1, counted 3) ∷ (Check 1 (zeros 7), refused 12) ∷ (Close 2, counted 1) ∷ (Check 2 (zeros 16), refused 12) ∷ (Sum, summed 11) ∷ []
+    ∷ (Close 2, counted 1) ∷ (Check 2 (zeros 16), refused 12) ∷ (Check 2 (zeros 7), refused 12) ∷ (Sum, summed 11) ∷ []
 
-pub boundaries : Answered script × Answered opening × Answered feeding × Answered drawing × Answered checking
-unfolding events machine emptyMachine openMachine openChecks named admit newEntry runsOf formula runsFeeding runsEnded ceiling start openCount total feedMachine drawMachine checkMachine closeMachine ticketChecks feedChecks feedOwn drawChecks drawOwn checkChecks checkOwn standingOf entryOf placeOf find afterFeed afterDraw afterClose put sumMachine outputOf
-boundaries = (refl, refl, refl, refl, refl)
+-- sixteen tickets of mode 2, with tags of 8 bytes
+abbrev sixteenOpen : Table
+sixteenOpen = map (λ (t : ℕ). (Open 2 (zeros 16) 8, opened t 1)) (upFrom 1 16)
+
+abbrev replacing : Table
+replacing =
+    sixteenOpen ++
+    -- no seventeenth, neither after a refused check
+    ((Open 2 (zeros 16) 8, refused 13) ∷ (Check 5 (zeros 7), refused 4) ∷ (Open 2 (zeros 16) 8, refused 13) ∷ (Sum, summed 16)
+    -- a check makes room for one, and that one for the next
+    ∷ (Check 5 (zeros 8), judged (verdict 8 0 (zeros 8)) 2) ∷ (Sum, summed 17) ∷ (Open 2 (zeros 16) 8, opened 17 1) ∷ (Open 3 [] 0, refused 13)
+    ∷ (Check 5 (zeros 8), refused 12) ∷ (Close 5, refused 12) ∷ (Sum, summed 18)
+    ∷ (Feed 17 (zeros 40), counted 2) ∷ (Check 17 (zeros 8), judged (verdict 8 40 (zeros 8)) 3) ∷ (Open 3 [] 0, opened 18 1) ∷ (Open 3 [] 0, refused 13)
+    ∷ (Check 16 (zeros 8), judged (verdict 8 0 (zeros 8)) 2) ∷ (Check 1 (zeros 8), judged (verdict 8 0 (zeros 8)) 2)
+    ∷ (Open 3 [] 0, opened 19 1) ∷ (Open 3 [] 0, opened 20 1) ∷ (Open 3 [] 0, refused 13) ∷ (Sum, summed 25) ∷ [])
+
+pub boundaries : Answered script × Answered opening × Answered feeding × Answered drawing × Answered checking × Answered replacing
+unfolding upFrom events machine emptyMachine openMachine openChecks named admit newEntry runsOf formula runsFeeding runsEnded ceiling start openCount total feedMachine drawMachine checkMachine closeMachine ticketChecks feedChecks feedOwn drawChecks drawOwn checkChecks checkOwn standingOf entryOf placeOf find afterFeed afterDraw afterClose afterCheck put sumMachine outputOf
+boundaries = (refl, refl, refl, refl, refl, refl)
 
 -- each answer, field by field: what is not said is 0
 pub answers : (refused 5 ≡ record { refusal = 5; ticket = 0; runs = 0; passed = false; sum = 0 })

@@ -12,7 +12,7 @@ use Rattle.mode.specs.Mode.{row}
 use Rattle.calls.specs.Checks.{Standing, mostIssued, mostFed}
 use Rattle.calls.specs.Machine.{Entry, Machine, runsOf, newEntry, afterClose, placeOf, entryOf, standingOf}
 use Rattle.calls.proofs.Checks.{Tagged}
-use Rattle.calls.proofs.Keyed.{AtMost, all, absent, inside, found}
+use Rattle.calls.proofs.Keyed.{Every, all, absent, inside, found}
 
 abbrev pub number : Entry → ℕ
 number e = e .number
@@ -42,7 +42,7 @@ pub record Sound (m : Machine) : Type 0 where
   pub above : (t : ℕ) → m .next ≤ t → all number t (m .entries) ≡ []
   pub numbered : m .next ≡ length (m .entries) + 1
   pub few : length (m .entries) ≤ mostIssued
-  pub small : AtMost runsOf mostRuns (m .entries)
+  pub small : Every (λ (e : Entry). runsOf e ≤ mostRuns) (m .entries)
 
 -- ---- what the machine reads of a ticket
 

@@ -13,15 +13,15 @@ use Rattle.permutation.specs.Permutation.{sbox, addConstant, atEveryPlace, subs
 use Rattle.mode.specs.declared.Mode.the-variants.{Mac}
 use Rattle.mode.specs.Mode.{row, named}
 use Rattle.sponge.specs.Sponge.{ceiling, initial, start, pad, cut, blocks, flipIf, absorbBlocks, absorbMessage, squeezeBlocks, squeezeBytes, output, oneShot, runsFeeding, runsEnded}
-use Rattle.calls.specs.Answer.{refused, opened, judged}
+use Rattle.calls.specs.Answer.{refused, opened, judged, summed}
 use Rattle.checks.specs.Buffers.{written}
 use Rattle.checks.specs.Equality.{same}
 use Rattle.checks.proofs.Equality.{equal-same, other-same}
 use Rattle.calls.specs.Checks.{openChecks, ticketChecks, drawOwn, drawChecks, checkOwn, checkChecks}
-use Rattle.calls.specs.Call.{Open, Draw, Check, Event, events}
+use Rattle.calls.specs.Call.{Open, Draw, Check, Close, Sum, Event, events}
 use Rattle.calls.specs.Keyed.{find, total}
-use Rattle.calls.specs.Machine.{emptyMachine, formula, runsOf, outputOf, newEntry, afterDraw, placeOf, entryOf, standingOf, put}
-use Rattle.calls.specs.Machine.{openCount, admit, openMachine, drawMachine, checkMachine, machine}
+use Rattle.calls.specs.Machine.{emptyMachine, formula, runsOf, outputOf, newEntry, afterDraw, afterClose, afterCheck, placeOf, entryOf, standingOf, put}
+use Rattle.calls.specs.Machine.{openCount, admit, openMachine, drawMachine, checkMachine, closeMachine, sumMachine, machine}
 
 abbrev key : List ℕ
 key = 0 ∷ 1 ∷ 2 ∷ 3 ∷ 4 ∷ 5 ∷ 6 ∷ 7 ∷ 8 ∷ 9 ∷ 10 ∷ 11 ∷ 12 ∷ 13 ∷ 14 ∷ 15 ∷ []
@@ -41,13 +41,21 @@ macs : (oneShot (row (Mac 16)) key [] 16 ≡ tag) × (oneShot (row (Mac 8)) key 
 unfolding oneShot output squeezeBytes squeezeBlocks absorbMessage absorbBlocks flipIf blocks cut pad start initial fromBytes toBytes wordsOf zerosTo ceiling xorFrom xorAt xorWord bytesFrom byteAt weight permute round diffuse substitute atEveryPlace sbox addConstant mix rotr column number word bit
 macs = (refl, refl)
 
--- under tags of 16 bytes a check passes for the tag, and its first 8 bytes are none; under tags of 8 bytes it passes for the shorter tag, and not for those 8
+-- under tags of 16 bytes a check passes for the tag, and its first 8 bytes are none; under tags of 8 bytes it passes for the shorter tag, and not for those 8.
+-- One that fails closes its ticket as one that passes does, and a ticket that is opened then is judged anew
 pub judging : map (λ (e : Event). e .response .answer)
     (events machine emptyMachine
-    (Open 2 key 16 ∷ Open 2 key 8 ∷ Check 1 tag ∷ Check 1 other ∷ Check 1 (take 8 tag) ∷ Check 2 shorter ∷ Check 2 (take 8 tag) ∷ Check 2 tag ∷ []))
-    ≡ opened 1 1 ∷ opened 2 1 ∷ judged true 2 ∷ judged false 2 ∷ refused 4 ∷ judged true 2 ∷ judged false 2 ∷ refused 4 ∷ []
-unfolding events machine emptyMachine openMachine openChecks named admit newEntry runsOf formula runsFeeding runsEnded ceiling start openCount total checkMachine ticketChecks checkChecks checkOwn standingOf entryOf placeOf find afterDraw put outputOf
-judging = λ i. opened 1 1 ∷ opened 2 1 ∷ judged (right i) 2 ∷ judged (wrong i) 2 ∷ refused 4 ∷ judged (short i) 2 ∷ judged (beginning i) 2 ∷ refused 4 ∷ []
+    (Open 2 key 16 ∷ Open 2 key 16 ∷ Open 2 key 8 ∷ Open 2 key 8
+    ∷ Check 1 (take 8 tag) ∷ Check 1 tag ∷ Check 1 tag ∷ Check 2 other ∷ Check 2 tag ∷ Close 2
+    ∷ Check 3 tag ∷ Check 3 shorter ∷ Check 3 shorter ∷ Check 4 (take 8 tag) ∷ Check 4 shorter ∷ Open 2 key 16 ∷ Check 5 tag ∷ Sum ∷ []))
+    ≡ opened 1 1 ∷ opened 2 1 ∷ opened 3 1 ∷ opened 4 1
+    ∷ refused 4 ∷ judged true 2 ∷ refused 12 ∷ judged false 2 ∷ refused 12 ∷ refused 12
+    ∷ refused 4 ∷ judged true 2 ∷ refused 12 ∷ judged false 2 ∷ refused 12 ∷ opened 5 1 ∷ judged true 2 ∷ summed 10 ∷ []
+unfolding events machine emptyMachine openMachine openChecks named admit newEntry runsOf formula runsFeeding runsEnded ceiling start openCount total checkMachine closeMachine sumMachine ticketChecks checkChecks checkOwn standingOf entryOf placeOf find afterDraw afterClose afterCheck put outputOf
+judging =
+    λ i. opened 1 1 ∷ opened 2 1 ∷ opened 3 1 ∷ opened 4 1
+    ∷ refused 4 ∷ judged (right i) 2 ∷ refused 12 ∷ judged (wrong i) 2 ∷ refused 12 ∷ refused 12
+    ∷ refused 4 ∷ judged (short i) 2 ∷ refused 12 ∷ judged (beginning i) 2 ∷ refused 12 ∷ opened 5 1 ∷ judged (right i) 2 ∷ summed 10 ∷ []
   where
     right : same tag (oneShot (row (Mac 16)) key [] 16) ≡ true
     right = equal-same tag _ (sym (macs .0))

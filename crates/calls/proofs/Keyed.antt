@@ -1,4 +1,4 @@
--- Lists whose elements have a number: all elements with number t, the first of them replaced, and totals over the list.
+-- Lists whose elements have a number: all elements with number t, the first of them replaced, what holds of every element, and totals over the list.
 -- Assumes nothing.
 use mathlib.Core.Bool.{Bool, true, false, cond}
 use mathlib.Core.Path.{_≡_, refl, sym, ap, ap₂, _∙_}
@@ -9,7 +9,7 @@ use native.Mathlib.Omega.{arith}
 use native.Mathlib.Nat.{zero-add}
 use borrow.Author.Tests.{eqb-true, eq-eqb, ne-eqb}
 use lib.Dec.{eqb}
-use lib.ListN.{length, getD, set, length-append}
+use lib.ListN.{length, getD, set, replicate, length-append}
 use lib.Seq.{set-at, getD-at}
 use Rattle.calls.specs.Keyed.{find, total}
 
@@ -21,28 +21,42 @@ module _ {A : Type 0} where
   total-append f [] ys = rw zero-add
   total-append f (x ∷ xs) ys = rw (total-append f xs ys) (omega arith)
 
+  -- ---- what holds of every element
+
+  pub Every : (A → Type 0) → List A → Type 0
+  Every P [] = Unit {0}
+  Every P (x ∷ xs) = P x × Every P xs
+
+  module _ (P : A → Type 0) where
+    pub every-nil : Every P []
+    unfolding Every
+    every-nil = tt
+
+    pub every-replicate : (n : ℕ) (x : A) → P x → Every P (replicate n x)
+    unfolding Every
+    every-replicate zero x h = tt
+    every-replicate (suc n) x h = (h, every-replicate n x h)
+
+    pub every-set : (xs : List A) (i : ℕ) (y : A) → Every P xs → P y → Every P (set xs i y)
+    unfolding Every
+    every-set [] i y e h = e
+    every-set (x ∷ xs) zero y e h = (h, e .1)
+    every-set (x ∷ xs) (suc i) y e h = (e .0, every-set xs i y (e .1) h)
+
+    pub every-snoc : (xs : List A) (y : A) → Every P xs → P y → Every P (xs ++ (y ∷ []))
+    unfolding Every
+    every-snoc [] y e h = (h, tt)
+    every-snoc (x ∷ xs) y e h = (e .0, every-snoc xs y (e .1) h)
+
+    pub every-at : (xs : List A) (i : ℕ) (z : A) → Every P xs → i < length xs → P (getD xs i z)
+    unfolding Every
+    every-at [] i z e h = absurd (omega arith)
+    every-at (x ∷ xs) zero z e h = e .0
+    every-at (x ∷ xs) (suc i) z e h = every-at xs i z (e .1) (omega arith)
+
   -- f of each element is at most n
-  pub AtMost : (A → ℕ) → ℕ → List A → Type 0
-  AtMost f n [] = Unit {0}
-  AtMost f n (x ∷ xs) = (f x ≤ n) × AtMost f n xs
-
-  pub most-nil : (f : A → ℕ) (n : ℕ) → AtMost f n []
-  unfolding AtMost
-  most-nil f n = tt
-
-  pub most-set : (f : A → ℕ) (n : ℕ) (xs : List A) (i : ℕ) (y : A) → AtMost f n xs → f y ≤ n → AtMost f n (set xs i y)
-  unfolding AtMost
-  most-set f n [] i y m h = m
-  most-set f n (x ∷ xs) zero y m h = (h, m .1)
-  most-set f n (x ∷ xs) (suc i) y m h = (m .0, most-set f n xs i y (m .1) h)
-
-  pub most-snoc : (f : A → ℕ) (n : ℕ) (xs : List A) (y : A) → AtMost f n xs → f y ≤ n → AtMost f n (xs ++ (y ∷ []))
-  unfolding AtMost
-  most-snoc f n [] y m h = (h, tt)
-  most-snoc f n (x ∷ xs) y m h = (m .0, most-snoc f n xs y (m .1) h)
-
-  pub most-total : (f : A → ℕ) (n : ℕ) (xs : List A) → AtMost f n xs → total f xs ≤ length xs * n
-  unfolding AtMost total
+  pub most-total : (f : A → ℕ) (n : ℕ) (xs : List A) → Every (λ (x : A). f x ≤ n) xs → total f xs ≤ length xs * n
+  unfolding Every total
   most-total f n [] m = omega arith
   most-total f n (x ∷ xs) m = omega (arith, m .0, most-total f n xs (m .1))
 
@@ -82,6 +96,17 @@ module _ {A : Type 0} where
             → cond b 0 (suc (find number t xs)) ≡ suc (length xs)
         go true e ih = absurd (nil≢cons (sym e))
         go false e ih = ap suc (ih e)
+
+    -- an element with number t in the place of the first: there it is found
+    pub find-set : (t : ℕ) (xs : List A) (y : A) → number y ≡ t → find number t (set xs (find number t xs) y) ≡ find number t xs
+    unfolding find
+    find-set t [] y k = refl
+    find-set t (x ∷ xs) y k = go (eqb (number x) t) refl (find-set t xs y k)
+      where
+        go : (b : Bool) → eqb (number x) t ≡ b → find number t (set xs (find number t xs) y) ≡ find number t xs
+            → find number t (set (x ∷ xs) (cond b 0 (suc (find number t xs))) y) ≡ cond b 0 (suc (find number t xs))
+        go true e ih = rw (eq-eqb (number y) t k)
+        go false e ih = rw e (ap suc ih)
 
     -- how many have another number
     pub others : (t : ℕ) (xs : List A) → total (λ (x : A). cond (eqb (number x) t) 0 1) xs + length (all t xs) ≡ length xs

@@ -13,6 +13,7 @@ pub mod Law
 pub mod Apart
 pub mod Refusals
 pub mod Verdict
+pub mod Closing
 pub mod Judging
 pub mod Boundaries
 pub mod Transcript

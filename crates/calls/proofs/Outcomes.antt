@@ -1,26 +1,26 @@
 -- What a call on a sound machine comes to: it is refused, a ticket is issued, the entry of an open ticket is changed, or the sum is given.
 -- Assumes nothing.
-use mathlib.Core.Bool.{Bool, true, false}
+use mathlib.Core.Bool.{Bool, true, false, false≢true}
 use mathlib.Core.Path.{_≡_, refl, sym, ap, _∙_}
 use mathlib.Core.Logic.{_≢_}
 use mathlib.Core.List.{List, [], _∷_, _++_}
 use Prim.Native.Nat.{ℕ, _+_, _≤_, _<_}
 use native.Mathlib.Omega.{arith}
-use borrow.Author.Tests.{ltb-false, leb-false, not-false}
+use borrow.Author.Tests.{ne-eqb, ltb-false, leb-false, not-false}
 use lib.Dec.{leb}
 use lib.ListN.{length, drop}
 use Rattle.mode.specs.declared.Mode.{Mode}
 use Rattle.mode.specs.declared.Named.{Named}
 use Rattle.mode.specs.declared.Named.the-variants.{Is, NoMode}
 use Rattle.mode.specs.Mode.{row, named}
-use Rattle.calls.specs.Answer.{opened, counted, judged}
+use Rattle.calls.specs.Answer.{accepted, opened, counted, judged}
 use Rattle.calls.specs.Call.{Call, Open, Feed, Draw, Check, Close, Sum, Step, step, refuse}
 use Rattle.checks.specs.Checks.{OneCheck, checked}
 use Rattle.checks.specs.Equality.{same}
 use Rattle.calls.specs.Checks.{Standing, mostIssued, mostFed, mostOpen}
 use Rattle.checks.specs.Buffers.{written}
 use Rattle.calls.specs.Checks.{openChecks, ticketChecks, feedOwn, feedChecks, drawOwn, drawChecks, checkOwn, checkChecks}
-use Rattle.calls.specs.Machine.{Entry, Machine, runsOf, outputOf, newEntry, afterFeed, afterDraw, afterClose, entryOf, standingOf, put, openCount, admit}
+use Rattle.calls.specs.Machine.{Entry, Machine, runsOf, outputOf, newEntry, afterFeed, afterDraw, afterClose, afterCheck, entryOf, standingOf, put, openCount, admit}
 use Rattle.calls.specs.Machine.{openMachine, feedMachine, drawMachine, checkMachine, closeMachine, sumMachine, machine}
 use Rattle.calls.proofs.Keyed.{all}
 use Rattle.checks.proofs.Checks.{Pass, Nonzero, checked-nonzero}
@@ -66,9 +66,16 @@ pub data Outcome (m : Machine) : Call → Step Machine → Type 0 where
       (step (put t (afterDraw count e) m) (counted (runsOf (afterDraw count e))) (written buffer place (drop (e .drawn) (outputOf e (e .drawn + count)))))
   checks : (t : ℕ) (tag : List ℕ) (e : Entry) → OpenTicket m t e
       → Outcome m (Check t tag)
-      (step (put t (afterDraw 0 e) m) (judged (same tag (outputOf (afterDraw 0 e) (row (e .mode) .mostDrawn))) (runsOf (afterDraw 0 e))) [])
+      (step (put t (afterCheck e) m) (judged (same tag (outputOf (afterCheck e) (row (e .mode) .mostDrawn))) (runsOf (afterCheck e))) [])
   closes : (t : ℕ) (e : Entry) → OpenTicket m t e → Outcome m (Close t) (step (put t (afterClose e) m) (counted (runsOf (afterClose e))) [])
   sums : Outcome m Sum (sumMachine m)
+
+-- an accepted check: the entry of its ticket, and what is done with it
+pub record AcceptedCheck (m : Machine) (t : ℕ) (tag : List ℕ) (s : Step Machine) : Type 0 where
+  pub entry : Entry
+  pub ticket : OpenTicket m t entry
+  pub done : s
+      ≡ step (put t (afterCheck entry) m) (judged (same tag (outputOf (afterCheck entry) (row (entry .mode) .mostDrawn))) (runsOf (afterCheck entry))) []
 
 -- ---- the calls
 
@@ -94,7 +101,7 @@ open-outcome n key tagLength m = go (named n tagLength) refl
     go NoMode h = refuses (Open n key tagLength) [] 1 (λ z. omega arith)
 
 pub outcome : (c : Call) (m : Machine) → Sound m → Outcome m c (machine c m)
-unfolding machine feedMachine drawMachine checkMachine closeMachine feedChecks feedOwn drawChecks drawOwn checkChecks checkOwn ticketChecks afterDraw
+unfolding machine feedMachine drawMachine checkMachine closeMachine feedChecks feedOwn drawChecks drawOwn checkChecks checkOwn ticketChecks afterDraw afterClose afterCheck
 outcome (Open n key tagLength) m s = open-outcome n key tagLength m
 outcome (Feed t bytes) m s =
     ticket-outcome (Feed t bytes) t [] m s (λ x. feedOwn x bytes)
@@ -109,9 +116,23 @@ outcome (Draw t buffer place count) m s =
 outcome (Check t tag) m s =
     ticket-outcome (Check t tag) t [] m s
     (λ x. checkOwn x tag)
-    (λ e. step (put t (afterDraw 0 e) m) (judged (same tag (outputOf (afterDraw 0 e) (row (e .mode) .mostDrawn))) (runsOf (afterDraw 0 e))) [])
+    (λ e. step (put t (afterCheck e) m) (judged (same tag (outputOf (afterCheck e) (row (e .mode) .mostDrawn))) (runsOf (afterCheck e))) [])
     (λ x. (λ z. omega arith, (λ z. omega arith, tt)))
     (λ e o pass. checks t tag e o)
 outcome (Close t) m s =
     ticket-outcome (Close t) t [] m s (λ x. []) (λ e. step (put t (afterClose e) m) (counted (runsOf (afterClose e))) []) (λ x. tt) (λ e o pass. closes t e o)
 outcome Sum m s = sums
+
+-- a check that is accepted is one of these
+pub accepted-check : (t : ℕ) (tag : List ℕ) (m : Machine) → Sound m → accepted (machine (Check t tag) m .response .answer) ≡ true
+    → AcceptedCheck m t tag (machine (Check t tag) m)
+unfolding machine checkMachine checkChecks checkOwn ticketChecks afterDraw afterClose afterCheck
+accepted-check t tag m s =
+    at-ticket P t [] m s (λ x. checkOwn x tag)
+    (λ e. step (put t (afterCheck e) m) (judged (same tag (outputOf (afterCheck e) (row (e .mode) .mostDrawn))) (runsOf (afterCheck e))) [])
+    (λ ok. absurd (false≢true ok)) (λ ok. absurd (false≢true ok))
+    (λ e o. checked-nonzero P (checkOwn (standingFor e) tag) (refuse m []) _ (λ z. omega arith, (λ z. omega arith, tt))
+    (λ n z ok. absurd (false≢true (sym (ne-eqb n 0 z) ∙ ok))) (λ pass ok. record { entry = e; ticket = o; done = refl }))
+  where
+    P : Step Machine → Type 0
+    P r = accepted (r .response .answer) ≡ true → AcceptedCheck m t tag r

@@ -18,9 +18,9 @@ use Rattle.sponge.proofs.Drawing.{blocks-drawn}
 use Rattle.calls.specs.Call.{Call, Step, refuse, final}
 use Rattle.checks.specs.Checks.{OneCheck, checked}
 use Rattle.calls.specs.Checks.{Standing, mostIssued, mostFed, ticketChecks}
-use Rattle.calls.specs.Machine.{Entry, Machine, emptyMachine, formula, runsOf, newEntry, afterFeed, afterDraw, afterClose, placeOf, entryOf, standingOf}
+use Rattle.calls.specs.Machine.{Entry, Machine, emptyMachine, formula, runsOf, newEntry, afterFeed, afterDraw, afterClose, afterCheck, placeOf, entryOf, standingOf}
 use Rattle.calls.specs.Machine.{put, sumMachine, machine}
-use Rattle.calls.proofs.Keyed.{most-nil, most-set, most-snoc, all, all-append, all-yes, all-no, all-here, all-other, named-is}
+use Rattle.calls.proofs.Keyed.{every-nil, every-set, every-snoc, all, all-append, all-yes, all-no, all-here, all-other, named-is}
 use Rattle.checks.proofs.Checks.{Pass, checked-each}
 use Rattle.calls.proofs.Checks.{Tagged}
 use Rattle.calls.proofs.Entries.{number, Good, Entered, missing, entered, mostRuns, Sound, standingFor}
@@ -60,6 +60,10 @@ pub good-closed : (e : Entry) → Good e → Good (afterClose e)
 unfolding afterClose
 good-closed e g = record { undrawn = g .undrawn; within = g .within; roomy = g .roomy; short = g .short }
 
+pub good-checked : (e : Entry) → Good e → Good (afterCheck e)
+unfolding afterDraw afterClose afterCheck
+good-checked e g = record { undrawn = λ f. absurd (false≢true f); within = omega (arith, g .within); roomy = g .roomy; short = g .short }
+
 -- ---- a machine with one entry changed, and with one more
 
 -- y is the new entry of ticket t, which had the entry e
@@ -84,7 +88,7 @@ module _ (t : ℕ) (m : Machine) (e y : Entry) (h : all number t (m .entries) �
     above = λ u l. put-none u (s .above u l);
     numbered = rw length-set (s .numbered);
     few = rw length-set (s .few);
-    small = most-set runsOf mostRuns (m .entries) (placeOf t m) y (s .small) (bounded y g);
+    small = every-set (λ (x : Entry). runsOf x ≤ mostRuns) (m .entries) (placeOf t m) y (s .small) (bounded y g);
   }
     where
       other : (u : ℕ) → u ≢ t → Entered (m .entries) u → Entered (put t y m .entries) u
@@ -116,7 +120,7 @@ module _ (m : Machine) (s : Sound m) (mode : Mode) (key : List ℕ) where
     above = λ u l. new-other u (λ z. omega arith) ∙ s .above u (omega arith);
     numbered = rw length-append (omega (arith, s .numbered));
     few = rw length-append (omega arith);
-    small = most-snoc runsOf mostRuns (m .entries) (newEntry (m .next) mode key) (s .small) (bounded _ (good-new (m .next) mode key short));
+    small = every-snoc (λ (x : Entry). runsOf x ≤ mostRuns) (m .entries) (newEntry (m .next) mode key) (s .small) (bounded _ (good-new (m .next) mode key short));
   }
     where
       other : (u : ℕ) → m .next ≢ u → Entered (m .entries) u → Entered (withNew mode key m .entries) u
@@ -154,16 +158,16 @@ sound-empty = record {
   above = λ t h. refl;
   numbered = refl;
   few = omega arith;
-  small = most-nil runsOf mostRuns;
+  small = every-nil (λ (x : Entry). runsOf x ≤ mostRuns);
 }
 
 sound-outcome : (m : Machine) → Sound m → {c : Call} {r : Step Machine} → Outcome m c r → Sound (r .after)
-unfolding withNew afterFeed afterDraw afterClose sumMachine
+unfolding withNew afterFeed afterDraw afterClose afterCheck sumMachine
 sound-outcome m s (refuses c buffer n h) = s
 sound-outcome m s (issues n mode key tagLength h short room) = new-sound m s mode key short room
 sound-outcome m s (feeds t bytes e o h room) = change-sound m s t e (afterFeed bytes e) o refl (good-fed bytes e (o .good) room)
 sound-outcome m s (draws t buffer place count e o h room) = change-sound m s t e (afterDraw count e) o refl (good-drawn count e (o .good) room)
-sound-outcome m s (checks t tag e o) = change-sound m s t e (afterDraw 0 e) o refl (good-drawn 0 e (o .good) (omega (arith, o .good .within)))
+sound-outcome m s (checks t tag e o) = change-sound m s t e (afterCheck e) o refl (good-checked e (o .good))
 sound-outcome m s (closes t e o) = change-sound m s t e (afterClose e) o refl (good-closed e (o .good))
 sound-outcome m s sums = s
 

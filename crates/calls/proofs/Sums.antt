@@ -13,7 +13,7 @@ use Rattle.calls.specs.Keyed.{total}
 use Rattle.calls.specs.Law.{upFrom}
 use Rattle.calls.specs.Answer.{accepted}
 use Rattle.calls.specs.Lists.{givenBy, tickets}
-use Rattle.calls.specs.Machine.{Entry, Machine, runsOf, newEntry, afterFeed, afterDraw, afterClose, placeOf, entryOf, put, sumMachine, machine}
+use Rattle.calls.specs.Machine.{Entry, Machine, runsOf, newEntry, afterFeed, afterDraw, afterClose, afterCheck, placeOf, entryOf, put, sumMachine, machine}
 use Rattle.calls.proofs.Keyed.{all, all-append, all-yes}
 use Rattle.calls.proofs.Entries.{number, Entered, missing, entered, Sound, entry-is}
 use Rattle.calls.proofs.Outcomes.{OpenTicket, Outcome, refuses, issues, feeds, draws, checks, closes, sums, outcome}
@@ -37,12 +37,12 @@ put-numbers m t e y o same =
 
 -- a call adds to the numbers the tickets that it gives
 given-outcome : (m : Machine) {c : Call} {r : Step Machine} → Outcome m c r → numbers (r .after) ≡ numbers m ++ given c (r .response)
-unfolding numbers given newEntry afterFeed afterDraw afterClose sumMachine
+unfolding numbers given newEntry afterFeed afterDraw afterClose afterCheck sumMachine
 given-outcome m (refuses c buffer n h) = rw (ne-eqb n 0 h, append-nil)
 given-outcome m (issues n mode key tagLength h short room) = map-append number (m .entries) (newEntry (m .next) mode key ∷ [])
 given-outcome m (feeds t bytes e o h room) = put-numbers m t e (afterFeed bytes e) o refl
 given-outcome m (draws t buffer place count e o h room) = put-numbers m t e (afterDraw count e) o refl
-given-outcome m (checks t tag e o) = put-numbers m t e (afterDraw 0 e) o refl
+given-outcome m (checks t tag e o) = put-numbers m t e (afterCheck e) o refl
 given-outcome m (closes t e o) = put-numbers m t e (afterClose e) o refl
 given-outcome m sums = sym (append-nil (numbers m))
 

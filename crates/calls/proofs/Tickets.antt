@@ -19,7 +19,7 @@ use Rattle.calls.specs.Answer.{refused, opened, counted, judged}
 use Rattle.calls.specs.Call.{Call, Open, Feed, Draw, Check, Close, Sum, Step, step, refuse, Response, Event, events, final}
 use Rattle.checks.specs.Buffers.{written}
 use Rattle.calls.specs.Lists.{concerns, isOn, issuedBy}
-use Rattle.calls.specs.Machine.{Entry, Machine, runsOf, outputOf, newEntry, afterFeed, afterDraw, afterClose, put, sumMachine, machine}
+use Rattle.calls.specs.Machine.{Entry, Machine, runsOf, outputOf, newEntry, afterFeed, afterDraw, afterClose, afterCheck, put, sumMachine, machine}
 use Rattle.calls.proofs.Keyed.{all, named-is}
 use Rattle.calls.proofs.Entries.{number, Good, Sound}
 use Rattle.checks.proofs.Buffers.{read-written}
@@ -116,7 +116,7 @@ reads-refused m c buffer n h = record {
     r = record { answer = refused n; buffer = buffer }
 
 reads-outcome : (m : Machine) → Sound m → {c : Call} {r : Step Machine} → Outcome m c r → Reads m c r
-unfolding withNew readCall readingOf outputOf afterFeed afterDraw afterClose
+unfolding withNew readCall readingOf outputOf afterFeed afterDraw afterClose afterCheck
 reads-outcome m s (refuses c buffer n h) = reads-refused m c buffer n h
 reads-outcome m s (issues n mode key tagLength h short room) = reads-new m s n mode key tagLength h
 reads-outcome m s (feeds t bytes e o h room) =
@@ -126,7 +126,7 @@ reads-outcome m s (draws t buffer place count e o h room) =
     reads-change m (Draw t buffer place count) (counted (runsOf (afterDraw count e))) _ t e (afterDraw count e) o refl (λ u. refl)
     (reading-path refl (append-nil (e .fed)) (drawn-more buffer place count e h) (and-false (e .feeding)) refl)
 reads-outcome m s (checks t tag e o) =
-    reads-change m (Check t tag) (judged _ (runsOf (afterDraw 0 e))) _ t e (afterDraw 0 e) o refl (λ u. refl)
+    reads-change m (Check t tag) (judged _ (runsOf (afterCheck e))) _ t e (afterCheck e) o refl (λ u. refl)
     (reading-path refl (append-nil (e .fed)) (append-nil (outputOf e (e .drawn)) ∙ ap (outputOf e) (sym (add-zero (e .drawn)))) (and-false (e .feeding)) refl)
 reads-outcome m s (closes t e o) =
     reads-change m (Close t) (counted (runsOf (afterClose e))) _ t e (afterClose e) o refl (λ u. refl)

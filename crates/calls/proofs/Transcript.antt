@@ -17,25 +17,29 @@ use Rattle.calls.specs.Checks.{openChecks, ticketChecks, feedOwn, feedCh
 use Rattle.calls.specs.Call.{Call, Open, Feed, Draw, Check, Close, Sum, Event, events}
 use Rattle.calls.specs.Keyed.{find, total}
 use Rattle.calls.specs.Lists.{unissued, issuedBy, issueOf, bytesFed, bytesDrawn, feedingLasts, lastRuns, runCount, tickets, afterIssue, naming, callsOf}
-use Rattle.calls.specs.Machine.{emptyMachine, formula, runsOf, outputOf, newEntry, afterFeed, afterDraw, afterClose, placeOf, entryOf, standingOf, put}
+use Rattle.calls.specs.Machine.{emptyMachine, formula, runsOf, outputOf, newEntry, afterFeed, afterDraw, afterClose, afterCheck, placeOf, entryOf, standingOf, put}
 use Rattle.calls.specs.Machine.{openCount, admit, openMachine, feedMachine, drawMachine, checkMachine, closeMachine, sumMachine, machine}
 
 abbrev key : List ℕ
 key = 0 ∷ 1 ∷ 2 ∷ 3 ∷ 4 ∷ 5 ∷ 6 ∷ 7 ∷ 8 ∷ 9 ∷ 10 ∷ 11 ∷ 12 ∷ 13 ∷ 14 ∷ 15 ∷ []
+
+-- a tag of 8 bytes
+abbrev guess : List ℕ
+guess = 1 ∷ 2 ∷ 3 ∷ 4 ∷ 5 ∷ 6 ∷ 7 ∷ 8 ∷ []
 
 abbrev calls : List Call
 calls =
     Feed 1 (9 ∷ []) ∷ Open 7 [] 0 ∷ Open 3 [] 7 ∷ Sum ∷ Open 2 key 16
     ∷ Feed 1 (1 ∷ 2 ∷ 3 ∷ 4 ∷ 5 ∷ 6 ∷ 7 ∷ []) ∷ Draw 2 (0 ∷ []) 1 1 ∷ Feed 1 (8 ∷ 9 ∷ [])
     ∷ Draw 2 (7 ∷ 7 ∷ 7 ∷ 7 ∷ []) 1 2 ∷ Feed 2 [] ∷ Draw 2 (7 ∷ 7 ∷ []) 0 1 ∷ Close 1 ∷ Feed 1 (5 ∷ [])
-    ∷ Open 2 key 17 ∷ Open 2 key 8 ∷ Check 3 (1 ∷ 2 ∷ 3 ∷ 4 ∷ 5 ∷ 6 ∷ 7 ∷ 8 ∷ []) ∷ Sum ∷ []
+    ∷ Open 2 key 17 ∷ Open 2 key 8 ∷ Check 3 (7 ∷ []) ∷ Check 3 guess ∷ Feed 3 (6 ∷ []) ∷ Check 3 guess ∷ Close 3 ∷ Sum ∷ []
 
 abbrev list : List Event
 list = events machine emptyMachine calls
 
 -- the tickets that were given
 pub tickets-read : tickets list ≡ 1 ∷ 2 ∷ 3 ∷ []
-unfolding tickets events machine emptyMachine openMachine openChecks named admit newEntry runsOf formula runsFeeding runsEnded ceiling start openCount total feedMachine drawMachine checkMachine closeMachine ticketChecks feedChecks feedOwn drawChecks drawOwn checkChecks checkOwn standingOf entryOf placeOf find afterFeed afterDraw afterClose put sumMachine
+unfolding tickets events machine emptyMachine openMachine openChecks named admit newEntry runsOf formula runsFeeding runsEnded ceiling start openCount total feedMachine drawMachine checkMachine closeMachine ticketChecks feedChecks feedOwn drawChecks drawOwn checkChecks checkOwn standingOf entryOf placeOf find afterFeed afterDraw afterClose afterCheck put sumMachine
 tickets-read = refl
 
 -- of each ticket: what its open named, the bytes fed, whether feeding lasts, the run count, the bytes drawn
@@ -46,13 +50,14 @@ pub ticket-read :
     × (feedingLasts 1 list ≡ true) × (feedingLasts 2 list ≡ false) × (feedingLasts 3 list ≡ false)
     × (runCount 1 list ≡ 2) × (runCount 2 list ≡ 2) × (runCount 3 list ≡ 2) × (runCount 4 list ≡ 0)
     × (bytesDrawn 1 list ≡ []) × (bytesDrawn 2 list ≡ 0xeb ∷ 0x1a ∷ 0xf6 ∷ [])
-unfolding issueOf bytesFed bytesDrawn feedingLasts lastRuns runCount events machine emptyMachine openMachine openChecks named admit newEntry runsOf formula runsFeeding runsEnded ceiling start openCount total feedMachine drawMachine checkMachine closeMachine ticketChecks feedChecks feedOwn drawChecks drawOwn checkChecks checkOwn standingOf entryOf placeOf find afterFeed afterDraw afterClose put sumMachine written outputOf oneShot output squeezeBytes squeezeBlocks absorbMessage absorbBlocks flipIf blocks cut pad initial fromBytes toBytes wordsOf zerosTo xorFrom xorAt xorWord bytesFrom byteAt weight permute round diffuse substitute atEveryPlace sbox addConstant mix rotr column number word bit
+unfolding issueOf bytesFed bytesDrawn feedingLasts lastRuns runCount events machine emptyMachine openMachine openChecks named admit newEntry runsOf formula runsFeeding runsEnded ceiling start openCount total feedMachine drawMachine checkMachine closeMachine ticketChecks feedChecks feedOwn drawChecks drawOwn checkChecks checkOwn standingOf entryOf placeOf find afterFeed afterDraw afterClose afterCheck put sumMachine written outputOf oneShot output squeezeBytes squeezeBlocks absorbMessage absorbBlocks flipIf blocks cut pad initial fromBytes toBytes wordsOf zerosTo xorFrom xorAt xorWord bytesFrom byteAt weight permute round diffuse substitute atEveryPlace sbox addConstant mix rotr column number word bit
 ticket-read = (refl, refl, refl, refl, refl, refl, refl, refl, refl, refl, refl, refl, refl, refl, refl, refl, refl)
 
--- the calls that name ticket 1 once it is issued, refused ones included
+-- the calls that name a ticket once it is issued, refused ones included: ticket 3 is closed by its check
 pub named-read : (callsOf (naming 1 (afterIssue 1 list))
     ≡ Feed 1 (1 ∷ 2 ∷ 3 ∷ 4 ∷ 5 ∷ 6 ∷ 7 ∷ []) ∷ Feed 1 (8 ∷ 9 ∷ []) ∷ Close 1 ∷ Feed 1 (5 ∷ []) ∷ [])
     × (map (λ (e : Event). e .response .answer) (naming 1 (afterIssue 1 list)) ≡ counted 1 ∷ counted 2 ∷ counted 2 ∷ refused 12 ∷ [])
-    × (callsOf (naming 3 (afterIssue 3 list)) ≡ Check 3 (1 ∷ 2 ∷ 3 ∷ 4 ∷ 5 ∷ 6 ∷ 7 ∷ 8 ∷ []) ∷ [])
-unfolding naming afterIssue callsOf events machine emptyMachine openMachine openChecks named admit newEntry runsOf formula runsFeeding runsEnded ceiling start openCount total feedMachine drawMachine checkMachine closeMachine ticketChecks feedChecks feedOwn drawChecks drawOwn checkChecks checkOwn standingOf entryOf placeOf find afterFeed afterDraw afterClose put sumMachine
-named-read = (refl, refl, refl)
+    × (callsOf (naming 3 (afterIssue 3 list)) ≡ Check 3 (7 ∷ []) ∷ Check 3 guess ∷ Feed 3 (6 ∷ []) ∷ Check 3 guess ∷ Close 3 ∷ [])
+    × (map (λ (e : Event). e .response .answer .refusal) (naming 3 (afterIssue 3 list)) ≡ 4 ∷ 0 ∷ 12 ∷ 12 ∷ 12 ∷ [])
+unfolding naming afterIssue callsOf events machine emptyMachine openMachine openChecks named admit newEntry runsOf formula runsFeeding runsEnded ceiling start openCount total feedMachine drawMachine checkMachine closeMachine ticketChecks feedChecks feedOwn drawChecks drawOwn checkChecks checkOwn standingOf entryOf placeOf find afterFeed afterDraw afterClose afterCheck put sumMachine
+named-read = (refl, refl, refl, refl)

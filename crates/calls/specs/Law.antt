@@ -1,5 +1,5 @@
--- Document 01's third demand, and what request K2 says of tag lengths and verdicts, as statements about anything that answers calls: S is a hub, or another
--- machine, `run` what a call makes of it and `empty` what a list begins with.
+-- Document 01's third demand, what request K2 says of tag lengths and verdicts, and what request K4 says of a check, as statements about anything that answers
+-- calls: S is a hub, or another machine, `run` what a call makes of it and `empty` what a list begins with.
 -- Assumes nothing.
 use mathlib.Core.Bool.{true, false}
 use mathlib.Core.Path.{_≡_}
@@ -13,11 +13,11 @@ use Rattle.mode.specs.declared.Named.{Named}
 use Rattle.mode.specs.declared.Named.the-variants.{Is}
 use Rattle.mode.specs.Mode.{row}
 use Rattle.sponge.specs.Sponge.{oneShot}
-use Rattle.calls.specs.Answer.{accepted, summed}
-use Rattle.calls.specs.Call.{Call, Open, Check, Sum, Step, Event, events, final}
+use Rattle.calls.specs.Answer.{accepted, refused, summed}
+use Rattle.calls.specs.Call.{Call, Open, Draw, Check, Close, Sum, Step, Event, events, final}
 use Rattle.calls.specs.Keyed.{total}
 use Rattle.calls.specs.Machine.{formula, emptyMachine, machine}
-use Rattle.calls.specs.Lists.{issuedBy, issueOf, bytesFed, bytesDrawn, feedingLasts, runCount, tickets, afterIssue, naming, callsOf}
+use Rattle.calls.specs.Lists.{issuedBy, issueOf, bytesFed, bytesDrawn, feedingLasts, runCount, tickets, afterIssue, names, naming, callsOf}
 
 -- k numbers from n on
 unfoldable pub upFrom : ℕ → ℕ → List ℕ
@@ -81,3 +81,26 @@ module _ {S : Type 0} (run : Call → S → Step S) (empty : S) where
       → accepted (run (Check t tag) (final run empty calls) .response .answer) ≡ true
       → (tag ≡ macFed calls t tagLength key → run (Check t tag) (final run empty calls) .response .answer .passed ≡ true)
       × (tag ≢ macFed calls t tagLength key → run (Check t tag) (final run empty calls) .response .answer .passed ≡ false)
+
+  -- ---- request K4's check
+
+  -- a check after a list
+  abbrev pub checkAfter : List Call → ℕ → List ℕ → Step S
+  checkAfter calls t tag = run (Check t tag) (final run empty calls)
+
+  -- a close after the list, where feeding has ended by a draw of no bytes
+  abbrev pub closeAfter : List Call → ℕ → Step S
+  closeAfter calls t = run (Close t) (run (Draw t [] 0 0) (final run empty calls) .after)
+
+  -- An accepted check after a list, whatever its verdict, also closes the ticket.
+  pub record Closes (calls : List Call) (t : ℕ) (tag : List ℕ) : Type 0 where
+    -- it gives the run count that a close after it would have given, if all that the check had done were to end feeding
+    pub count : checkAfter calls t tag .response .answer .runs ≡ closeAfter calls t .response .answer .runs
+    -- every call after it gets what it would get after that close
+    pub alike : (later : List Call) → events run (checkAfter calls t tag .after) later ≡ events run (closeAfter calls t .after) later
+    -- and one that names the ticket is refused with 12, however the list goes on
+    pub closed : (later : List Call) (c : Call) → names t c ≡ true
+        → run c (final run (checkAfter calls t tag .after) later) .response .answer ≡ refused 12
+
+  abbrev pub CheckCloses : Type 0
+  CheckCloses = (calls : List Call) (t : ℕ) (tag : List ℕ) → accepted (checkAfter calls t tag .response .answer) ≡ true → Closes calls t tag

@@ -62,7 +62,7 @@ unfoldable pub afterFeed : List ℕ → Entry → Entry
 afterFeed bytes e =
     record { number = e .number; isOpen = e .isOpen; mode = e .mode; key = e .key; fed = e .fed ++ bytes; feeding = e .feeding; drawn = e .drawn }
 
--- feeding has ended, and count more bytes are drawn: none by a check
+-- feeding has ended, and count more bytes are drawn
 unfoldable pub afterDraw : ℕ → Entry → Entry
 afterDraw count e =
     record { number = e .number; isOpen = e .isOpen; mode = e .mode; key = e .key; fed = e .fed; feeding = false; drawn = e .drawn + count }
@@ -70,6 +70,10 @@ afterDraw count e =
 unfoldable pub afterClose : Entry → Entry
 afterClose e =
     record { number = e .number; isOpen = false; mode = e .mode; key = e .key; fed = e .fed; feeding = e .feeding; drawn = e .drawn }
+
+-- feeding has ended, nothing more is drawn, and the entry is closed (request K4)
+unfoldable pub afterCheck : Entry → Entry
+afterCheck e = afterClose (afterDraw 0 e)
 
 -- ---- the entry of a ticket
 
@@ -119,10 +123,10 @@ drawMachine t buffer place count m =
     checked (refuse m buffer) (drawChecks (standingOf t m) buffer place count)
     (step (put t e m) (counted (runsOf e)) (written buffer place (drop (before .drawn) (outputOf before (before .drawn + count)))))
 
--- the tag passes if it equals the MAC, whole: all the output that may be drawn
+-- the tag passes if it equals the MAC, whole: all the output that may be drawn. Whatever the verdict, the entry is closed
 unfoldable pub checkMachine : ℕ → List ℕ → Machine → Step Machine
 checkMachine t tag m =
-    let e : Entry = afterDraw 0 (entryOf t m) in
+    let e : Entry = afterCheck (entryOf t m) in
     checked (refuse m []) (checkChecks (standingOf t m) tag) (step (put t e m) (judged (same tag (outputOf e (row (e .mode) .mostDrawn))) (runsOf e)) [])
 
 unfoldable pub closeMachine : ℕ → Machine → Step Machine

@@ -12,7 +12,7 @@ use Rattle.mode.specs.declared.Named.{Named}
 use Rattle.mode.specs.declared.Named.the-variants.{Is, NoMode}
 use Rattle.sponge.specs.declared.record.Record.{Record}
 use Rattle.mode.specs.Mode.{row, numberOf, named}
-use Rattle.sponge.specs.Record.{sum64, vacant, absorbed, finished, nextBytes, squeezed, tagMatches}
+use Rattle.sponge.specs.Record.{absorbed, finished, nextBytes, squeezed, tagMatches}
 use Rattle.sponge.proofs.Core.{sum64-fits}
 use Rattle.calls.specs.declared.Answer.{Answer}
 use Rattle.calls.specs.Answer.{opened, counted, judged, summed}
@@ -22,19 +22,19 @@ use Rattle.checks.specs.Buffers.{written}
 use Rattle.checks.specs.Equality.{same}
 use Rattle.calls.specs.Checks.{Standing, openChecks, ticketChecks, feedOwn, feedChecks, drawOwn, drawChecks, checkOwn, checkChecks}
 use Rattle.calls.specs.Keyed.{total}
-use Rattle.calls.specs.Machine.{Entry, Machine, emptyMachine, runsOf, outputOf, newEntry, afterFeed, afterDraw, afterClose, entryOf, openMachine, feedMachine, drawMachine, checkMachine, closeMachine, sumMachine, machine}
+use Rattle.calls.specs.Machine.{Entry, Machine, emptyMachine, runsOf, outputOf, newEntry, afterFeed, afterDraw, afterClose, afterCheck, entryOf, openMachine, feedMachine, drawMachine, checkMachine, closeMachine, sumMachine, machine}
 use Rattle.calls.specs.Machine as plain
 use Rattle.calls.proofs.Keyed.{all, named-is}
 use Rattle.checks.proofs.Checks.{Pass, checked-both}
 use Rattle.calls.proofs.Checks.{never-issued, is-closed, is-open, Tagged, tagged}
 use Rattle.calls.proofs.Entries.{number, Good, Entered, missing, entered, Sound, standingFor, entry-is, standing-is, standing-none}
-use Rattle.calls.proofs.Sound.{withNew, good-new, good-fed, good-drawn, sound-empty, sound-step}
+use Rattle.calls.proofs.Sound.{withNew, good-new, good-fed, good-drawn, good-closed, good-checked, sound-empty, sound-step}
 use Rattle.hub.specs.declared.Hub.{Hub}
 use Rattle.hub.specs.Hub.{emptyHub, recordOf, openHub, feedHub, drawHub, checkHub, closeHub, sumHub, onHub}
 use Rattle.hub.specs.Hub as hub
-use Rattle.hub.proofs.Model.{model, count, new-model, fed-model, drawn-model, checked-model, drawn-output, verdict}
+use Rattle.hub.proofs.Model.{model, count, new-model, fed-model, drawn-model, checked-model, closed-model, drawn-output, verdict}
 use Rattle.hub.proofs.Tickets.{ticket, is-absent, record-is, standing-issued, standing-closed, standing-open}
-use Rattle.hub.proofs.Represents.{Represents, any, runsIn, runs-small, held-if, stays-open, now-closed, next-is, now-open, full-same, represents-empty}
+use Rattle.hub.proofs.Represents.{Represents, any, runsIn, runs-small, held-if, settled, settles, next-is, now-open, full-same, represents-empty}
 
 -- ---- calls on a ticket, and one more ticket
 
@@ -91,15 +91,15 @@ module _ (h : Hub) (m : Machine) (s : Sound m) (rep : Represents h m) where
           (refused buffer 11)
       go (entered e q g) = one e q g (e .isOpen) refl
 
-  -- the ticket stays open: r is the record of y, its new entry
-  kept : (t : ℕ) (e : Entry) → all number t (m .entries) ≡ e ∷ [] → e .isOpen ≡ true → Good e
-      → (r : Record) (y : Entry) → r ≡ model y → y .number ≡ e .number → y .isOpen ≡ e .isOpen → Good y → (answer : ℕ → Answer) (buffer : List ℕ)
-      → Same (step (hub.put t r h) (answer (r .runs)) buffer) (step (plain.put t y m) (answer (runsOf y)) buffer)
-  kept t e q o g r y is number-kept open-kept yg answer buffer =
+  -- r is the record of y, the ticket's new entry, which says whether the ticket stays open
+  settles-same : (t : ℕ) (e : Entry) → all number t (m .entries) ≡ e ∷ [] → e .isOpen ≡ true → Good e
+      → (r : Record) (y : Entry) → r ≡ model y → y .number ≡ e .number → Good y → (b : Bool) → y .isOpen ≡ b → (answer : ℕ → Answer) (buffer : List ℕ)
+      → Same (step (settled b t r h) (answer (r .runs)) buffer) (step (plain.put t y m) (answer (runsOf y)) buffer)
+  settles-same t e q o g r y is number-kept yg b yo answer buffer =
       rw is
       (record {
         responses = ap (λ (n : ℕ). record { answer = answer n; buffer = buffer }) (count y yg);
-        left = stays-open h m s rep t e q o g y (number-kept ∙ named-is number t (m .entries) e [] q) (open-kept ∙ o) yg;
+        left = settles h m s rep t e q o g y (number-kept ∙ named-is number t (m .entries) e [] q) yg b yo;
       })
 
   -- one more ticket, in the first free place
@@ -138,8 +138,8 @@ module _ (h : Hub) (m : Machine) (s : Sound m) (rep : Represents h m) where
       (λ r. step (hub.put t (absorbed bytes r) h) (counted (absorbed bytes r .runs)) [])
       (λ e. step (plain.put t (afterFeed bytes e) m) (counted (runsOf (afterFeed bytes e))) [])
       (λ e q o g pass.
-      kept t e q o g (absorbed bytes (model e)) (afterFeed bytes e) (fed-model bytes e (not-false _ (pass .0))) refl refl
-      (good-fed bytes e g (ltb-false _ _ (pass .1 .0))) counted [])
+      settles-same t e q o g (absorbed bytes (model e)) (afterFeed bytes e) (fed-model bytes e (not-false _ (pass .0))) refl
+      (good-fed bytes e g (ltb-false _ _ (pass .1 .0))) true o counted [])
 
   draw-same : (t : ℕ) (buffer : List ℕ) (place k : ℕ) → Same (drawHub t buffer place k h) (drawMachine t buffer place k m)
   unfolding drawHub drawMachine drawChecks drawOwn afterDraw
@@ -149,28 +149,28 @@ module _ (h : Hub) (m : Machine) (s : Sound m) (rep : Represents h m) where
       (λ e. step (plain.put t (afterDraw k e) m) (counted (runsOf (afterDraw k e))) (written buffer place (drop (e .drawn) (outputOf e (e .drawn + k)))))
       (λ e q o g pass.
       rw (drawn-output e g k)
-      (kept t e q o g (squeezed k (finished (model e))) (afterDraw k e) (drawn-model e g k) refl refl
-      (good-drawn k e g (ltb-false _ _ (pass .1 .0))) counted (written buffer place (drop (e .drawn) (outputOf e (e .drawn + k))))))
+      (settles-same t e q o g (squeezed k (finished (model e))) (afterDraw k e) (drawn-model e g k) refl
+      (good-drawn k e g (ltb-false _ _ (pass .1 .0))) true o counted (written buffer place (drop (e .drawn) (outputOf e (e .drawn + k))))))
 
   check-same : (t : ℕ) (tag : List ℕ) → Same (checkHub t tag h) (checkMachine t tag m)
-  unfolding checkHub checkMachine checkChecks checkOwn afterDraw
+  unfolding checkHub checkMachine checkChecks checkOwn afterDraw afterClose afterCheck
   check-same t tag =
       on-ticket t [] (λ x. checkOwn x tag)
-      (λ r. step (hub.put t (finished r) h) (judged (tagMatches tag (finished r)) (finished r .runs)) [])
-      (λ e. step (plain.put t (afterDraw 0 e) m) (judged (same tag (outputOf (afterDraw 0 e) (row (e .mode) .mostDrawn))) (runsOf (afterDraw 0 e))) [])
+      (λ r. step (hub.release t (finished r .runs) h) (judged (tagMatches tag (finished r)) (finished r .runs)) [])
+      (λ e. step (plain.put t (afterCheck e) m) (judged (same tag (outputOf (afterCheck e) (row (e .mode) .mostDrawn))) (runsOf (afterCheck e))) [])
       (λ e q o g pass.
       let tags : numberOf (e .mode) ≡ 2 = eqb-true _ _ (not-false _ (pass .0)) in
       rw (verdict tag e g tags)
-      (kept t e q o g (finished (model e)) (afterDraw 0 e) (checked-model e g) refl refl
-      (good-drawn 0 e g (omega (arith, g .within))) (judged (same tag (outputOf (afterDraw 0 e) (row (e .mode) .mostDrawn)))) []))
+      (settles-same t e q o g (finished (model e)) (afterCheck e) (checked-model e g) refl (good-checked e g) false refl
+      (judged (same tag (outputOf (afterCheck e) (row (e .mode) .mostDrawn)))) []))
 
   close-same : (t : ℕ) → Same (closeHub t h) (closeMachine t m)
-  unfolding closeHub closeMachine ticketChecks afterClose runsOf
+  unfolding closeHub closeMachine ticketChecks afterClose
   close-same t =
       on-ticket t [] (λ x. [])
-      (λ r. step (record { records = hub.put t vacant h .records; issued = h .issued; closed = sum64 (h .closed) (r .runs) }) (counted (r .runs)) [])
+      (λ r. step (hub.release t (r .runs) h) (counted (r .runs)) [])
       (λ e. step (plain.put t (afterClose e) m) (counted (runsOf (afterClose e))) [])
-      (λ e q o g pass. record { responses = ap (λ (n : ℕ). record { answer = counted n; buffer = [] }) (count e g); left = now-closed h m s rep t e q o g })
+      (λ e q o g pass. settles-same t e q o g (model e) (afterClose e) (closed-model e) refl (good-closed e g) false refl counted [])
 
   sum-same : Same (sumHub h) (sumMachine m)
   unfolding sumHub sumMachine
@@ -193,7 +193,7 @@ module _ (h : Hub) (m : Machine) (s : Sound m) (rep : Represents h m) where
 -- ---- lists of calls
 
 -- from any machine and any hub that represents it
-from : (calls : List Call) (h : Hub) (m : Machine) → Sound m → Represents h m → events onHub h calls ≡ events machine m calls
+pub from : (calls : List Call) (h : Hub) (m : Machine) → Sound m → Represents h m → events onHub h calls ≡ events machine m calls
 unfolding events
 from [] h m s rep = refl
 from (c ∷ cs) h m s rep =
@@ -202,7 +202,7 @@ from (c ∷ cs) h m s rep =
     (from cs (onHub c h .after) (machine c m .after) (sound-step c m s) (one .left))
 
 -- what is left after a list
-left-after : (calls : List Call) (h : Hub) (m : Machine) → Sound m → Represents h m
+pub left-after : (calls : List Call) (h : Hub) (m : Machine) → Sound m → Represents h m
     → Sound (final machine m calls) × Represents (final onHub h calls) (final machine m calls)
 unfolding final
 left-after [] h m s rep = (s, rep)
@@ -212,8 +212,13 @@ left-after (c ∷ cs) h m s rep = left-after cs (onHub c h .after) (machine c m 
 pub agree : (calls : List Call) → events onHub emptyHub calls ≡ events machine emptyMachine calls
 agree calls = from calls emptyHub emptyMachine sound-empty represents-empty
 
--- and so does a call after it
+-- after it, the hub represents the machine
+pub left-by : (calls : List Call) → Sound (final machine emptyMachine calls) × Represents (final onHub emptyHub calls) (final machine emptyMachine calls)
+left-by calls = left-after calls emptyHub emptyMachine sound-empty represents-empty
+
+-- so one more call agrees
+pub next-same : (calls : List Call) (c : Call) → Same (onHub c (final onHub emptyHub calls)) (machine c (final machine emptyMachine calls))
+next-same calls c = same-step (final onHub emptyHub calls) (final machine emptyMachine calls) (left-by calls .0) (left-by calls .1) c
+
 pub agree-next : (calls : List Call) (c : Call) → onHub c (final onHub emptyHub calls) .response ≡ machine c (final machine emptyMachine calls) .response
-agree-next calls c =
-    let after = left-after calls emptyHub emptyMachine sound-empty represents-empty in
-    same-step (final onHub emptyHub calls) (final machine emptyMachine calls) (after .0) (after .1) c .responses
+agree-next calls c = next-same calls c .responses

@@ -17,7 +17,8 @@ use Rattle.mode.specs.declared.Named.the-variants.{Is, NoMode}
 use Rattle.sponge.specs.declared.record.Record.{Record}
 use Rattle.mode.specs.Mode.{row, numberOf, named}
 use Rattle.mode.proofs.Modes.{number-is, length-ignored}
-use Rattle.sponge.specs.Record.{sum64, fresh, absorbed, finished, nextBytes, squeezed, tagMatches}
+use Rattle.sponge.specs.Record.{sum64, vacant, fresh, absorbed, finished, nextBytes, squeezed, tagMatches}
+use Rattle.sponge.proofs.Core.{sum64-zero}
 use Rattle.calls.specs.declared.Answer.{Answer}
 use Rattle.calls.specs.Answer.{refused, opened, counted, judged}
 use Rattle.checks.specs.Checks.{OneCheck, checked}
@@ -30,9 +31,9 @@ use Rattle.hub.specs.declared.Hub.{Hub}
 use Rattle.hub.specs.declared.Reply.{Reply}
 use Rattle.hub.specs.declared.places.Located.{Located}
 use Rattle.hub.specs.declared.records.Worked.{Worked}
-use Rattle.hub.specs.Hub.{placeOf, absent, noRecord, recordOf, putAt, put, standingOf, admit, openHub, feedHub, drawHub, checkHub, closeHub, replyOf}
+use Rattle.hub.specs.Hub.{placeOf, absent, noRecord, recordOf, putAt, put, release, standingOf, admit, openHub, feedHub, drawHub, checkHub, closeHub, replyOf}
 use Rattle.hub.proofs.Locating.{located-never, located-closed, located-open}
-use Rattle.hub.specs.Records.{located, recordAt, standingAs, found, feedRecord, drawRecord, checkRecord, closeRecord}
+use Rattle.hub.specs.Records.{located, recordAt, standingAs, found, feedRecord, drawRecord, checkRecord, closeRecord, workedOf}
 
 -- ---- calls on a ticket
 
@@ -44,6 +45,17 @@ putBack p h s = step (putAt p (s .after) h) (s .response .answer) (s .response .
 abbrev pub replied : ℕ → Worked → Hub → Reply
 replied p w h = record { hub = putAt p (w .after) h; answer = w .answer }
 
+-- likewise, with n for the runs of the closed tickets
+abbrev pub withClosed : ℕ → Worked → Hub → ℕ → Reply
+withClosed p w h n = record { hub = record { records = putAt p (w .after) h .records; issued = h .issued; closed = n }; answer = w .answer }
+
+-- what it gives back after a check or a close: the runs that it answers with have joined them
+abbrev pub released : ℕ → Worked → Hub → Reply
+released p w h = withClosed p w h (sum64 (h .closed) (w .answer .runs))
+
+abbrev pub releaseBack : ℕ → Hub → Step Record → Step Hub
+releaseBack p h s = step (released p (workedOf s) h .hub) (s .response .answer) (s .response .buffer)
+
 -- what was in place p, put back, leaves the hub as it was
 pub put-same : (p : ℕ) (h : Hub) → putAt p (recordAt p h) h ≡ h
 put-same p h i = record { records = set-getD (h .records) p noRecord i; issued = h .issued; closed = h .closed }
@@ -54,45 +66,48 @@ unfolding standingOf
 as-record t h e o i =
     record { issued = e i; isOpen = o i; mode = recordOf t h .mode; feeding = recordOf t h .feeding; fed = recordOf t h .fed; drawn = recordOf t h .drawn }
 
--- over the call's own checks, what it makes of the record, its answer, and the buffer before it and after
+-- over the call's own checks, what it leaves in the record's place, its answer, and the buffer before it and after
 module _ (own : Standing → List OneCheck) (made : Record → Record) (answer : Record → Answer) (before : List ℕ) (buffer : Record → List ℕ) where
+  abbrev accept : Record → Step Record
+  accept r = step (made r) (answer r) (buffer r)
+
   abbrev onRecord : ℕ → Record → Step Record
-  onRecord n r = checked (refuse r before) (found n ∷ own (standingAs r)) (step (made r) (answer r) (buffer r))
+  onRecord n r = checked (refuse r before) (found n ∷ own (standingAs r)) (accept r)
 
-  abbrev onTicket : ℕ → Hub → Step Hub
-  onTicket t h =
-      checked (refuse h before) (ticketChecks (standingOf t h) ++ own (standingOf t h))
-      (step (put t (made (recordOf t h)) h) (answer (recordOf t h)) (buffer (recordOf t h)))
+  -- and over how that is put back: a refused call leaves the hub as it was
+  module _ (t : ℕ) (h : Hub) (back : ℕ → Step Record → Step Hub) (same : (p n : ℕ) → refuse h before n ≡ back p (refuse (recordAt p h) before n)) where
+    -- where the ticket's record is
+    abbrev its-place : ℕ
+    its-place = placeOf t h
 
-  module _ (t : ℕ) (h : Hub) where
+    abbrev onTicket : Step Hub
+    onTicket = checked (refuse h before) (ticketChecks (standingOf t h) ++ own (standingOf t h)) (back its-place (accept (recordOf t h)))
+
     -- at a place, after the checks 11 and 12
     abbrev atPlace : Located → Step Hub
-    atPlace l = putBack (l .place) h (onRecord (l .refusal) (recordAt (l .place) h))
+    atPlace l = back (l .place) (onRecord (l .refusal) (recordAt (l .place) h))
 
     -- an open ticket's own checks
     own-checks : standingOf t h .issued ≡ true → standingOf t h .isOpen ≡ true
-        → checked (refuse h before) (own (standingOf t h)) (step (put t (made (recordOf t h)) h) (answer (recordOf t h)) (buffer (recordOf t h)))
-        ≡ atPlace (record { refusal = 0; place = placeOf t h })
-    unfolding put recordOf
+        → checked (refuse h before) (own (standingOf t h)) (back its-place (accept (recordOf t h))) ≡ atPlace (record { refusal = 0; place = its-place })
+    unfolding recordOf
     own-checks e o =
-        ap (λ (s : Standing). checked (refuse h before) (own s) (putBack (placeOf t h) h (step (made r) (answer r) (buffer r)))) (as-record t h e o)
-        ∙ checked-both (λ (x : Step Hub) (y : Step Record). x ≡ putBack (placeOf t h) h y) (own (standingAs r)) (refuse h before) (refuse r before)
-        _ (step (made r) (answer r) (buffer r)) (λ n. ap (λ (g : Hub). refuse g before n) (sym (put-same (placeOf t h) h))) (λ pass. refl)
+        ap (λ (s : Standing). checked (refuse h before) (own s) (back its-place (accept r))) (as-record t h e o)
+        ∙ checked-both (λ (x : Step Hub) (y : Step Record). x ≡ back its-place y) (own (standingAs r)) (refuse h before) (refuse r before)
+        _ (accept r) (same its-place) (λ pass. refl)
       where
         r : Record
         r = recordOf t h
 
-    by-standing : (issued isOpen : Bool) → standingOf t h .issued ≡ issued → standingOf t h .isOpen ≡ isOpen → onTicket t h ≡ atPlace (located t h)
+    by-standing : (issued isOpen : Bool) → standingOf t h .issued ≡ issued → standingOf t h .isOpen ≡ isOpen → onTicket ≡ atPlace (located t h)
     by-standing false isOpen e o =
-        never-issued (refuse h before) (standingOf t h) (own (standingOf t h)) _ e ∙ ap (λ (g : Hub). refuse g before 11) (sym (put-same 0 h))
-        ∙ ap atPlace (sym (located-never t h e))
+        never-issued (refuse h before) (standingOf t h) (own (standingOf t h)) _ e ∙ same 0 11 ∙ ap atPlace (sym (located-never t h e))
     by-standing true false e o =
-        is-closed (refuse h before) (standingOf t h) (own (standingOf t h)) _ e o ∙ ap (λ (g : Hub). refuse g before 12) (sym (put-same 0 h))
-        ∙ ap atPlace (sym (located-closed t h e o))
+        is-closed (refuse h before) (standingOf t h) (own (standingOf t h)) _ e o ∙ same 0 12 ∙ ap atPlace (sym (located-closed t h e o))
     by-standing true true e o =
         is-open (refuse h before) (standingOf t h) (own (standingOf t h)) _ e o ∙ own-checks e o ∙ ap atPlace (sym (located-open t h e o))
 
-    pub by-record : onTicket t h ≡ atPlace (located t h)
+    pub by-record : onTicket ≡ atPlace (located t h)
     by-record = by-standing (standingOf t h .issued) (standingOf t h .isOpen) refl refl
 
 -- the calls themselves, by where the record is
@@ -106,44 +121,37 @@ module _ (t : ℕ) (h : Hub) where
   abbrev there : Record
   there = recordAt place h
 
+  -- ---- a feed and a draw put the record back
+
+  back-same : (buffer : List ℕ) (p n : ℕ) → refuse h buffer n ≡ putBack p h (refuse (recordAt p h) buffer n)
+  back-same buffer p n = ap (λ (g : Hub). refuse g buffer n) (sym (put-same p h))
+
   pub feed-is : (bytes : List ℕ) → feedHub t bytes h ≡ putBack place h (feedRecord number bytes there)
-  unfolding feedHub feedChecks feedRecord
-  feed-is bytes = by-record (λ s. feedOwn s bytes) (absorbed bytes) (λ r. counted (absorbed bytes r .runs)) [] (λ r. []) t h
+  unfolding feedHub feedChecks feedRecord put
+  feed-is bytes =
+      by-record (λ s. feedOwn s bytes) (absorbed bytes) (λ r. counted (absorbed bytes r .runs)) [] (λ r. []) t h (λ p. putBack p h) (back-same [])
 
   pub draw-is : (buffer : List ℕ) (from count : ℕ) → drawHub t buffer from count h ≡ putBack place h (drawRecord number buffer from count there)
-  unfolding drawHub drawChecks drawRecord
+  unfolding drawHub drawChecks drawRecord put
   draw-is buffer from count =
       by-record (λ s. drawOwn s buffer from count) (λ r. squeezed count (finished r)) (λ r. counted (squeezed count (finished r) .runs)) buffer
-      (λ r. written buffer from (nextBytes count (finished r))) t h
+      (λ r. written buffer from (nextBytes count (finished r))) t h (λ p. putBack p h) (back-same buffer)
 
-  pub check-is : (tag : List ℕ) → checkHub t tag h ≡ putBack place h (checkRecord number tag there)
-  unfolding checkHub checkChecks checkRecord
-  check-is tag = by-record (λ s. checkOwn s tag) finished (λ r. judged (tagMatches tag (finished r)) (finished r .runs)) [] (λ r. []) t h
+  -- ---- a check and a close leave the place free. A refused one keeps the runs of the closed tickets as they are, which have 64 bits
 
--- close keeps the record's runs for the sum, and on a refused call the sum as it is, which has 64 bits
-module _ (t : ℕ) (h : Hub) (fits : h .closed < 2 ^ 64) where
-  abbrev closeAt : ℕ → Step Record → Step Hub
-  closeAt p s =
-      step (record { records = putAt p (s .after) h .records; issued = h .issued; closed = sum64 (h .closed) (s .response .answer .runs) }) (s .response .answer) []
+  module _ (fits : h .closed < 2 ^ 64) where
+    release-same : (p n : ℕ) → refuse h [] n ≡ releaseBack p h (refuse (recordAt p h) [] n)
+    release-same p n = sym (λ i. step (record { records = put-same p h i .records; issued = h .issued; closed = sum64-zero (h .closed) fits i }) (refused n) [])
 
-  abbrev closeBy : Located → Step Hub
-  closeBy l = closeAt (l .place) (closeRecord (l .refusal) (recordAt (l .place) h))
+    pub check-is : (tag : List ℕ) → checkHub t tag h ≡ releaseBack place h (checkRecord number tag there)
+    unfolding checkHub checkChecks checkRecord release put
+    check-is tag =
+        by-record (λ s. checkOwn s tag) (λ r. vacant) (λ r. judged (tagMatches tag (finished r)) (finished r .runs)) [] (λ r. []) t h (λ p. releaseBack p h)
+        release-same
 
-  nothing-more : sum64 (h .closed) 0 ≡ h .closed
-  unfolding sum64
-  nothing-more = omega (arith, fits)
-
-  kept : (n : ℕ) → refuse h [] n ≡ closeAt 0 (refuse (recordAt 0 h) [] n)
-  kept n = sym (λ i. step (record { records = put-same 0 h i .records; issued = h .issued; closed = nothing-more i }) (refused n) [])
-
-  close-by : (issued isOpen : Bool) → standingOf t h .issued ≡ issued → standingOf t h .isOpen ≡ isOpen → closeHub t h ≡ closeBy (located t h)
-  unfolding closeHub closeRecord put recordOf ticketChecks
-  close-by false isOpen e o = never-issued (refuse h []) (standingOf t h) [] _ e ∙ kept 11 ∙ ap closeBy (sym (located-never t h e))
-  close-by true false e o = is-closed (refuse h []) (standingOf t h) [] _ e o ∙ kept 12 ∙ ap closeBy (sym (located-closed t h e o))
-  close-by true true e o = is-open (refuse h []) (standingOf t h) [] _ e o ∙ ap closeBy (sym (located-open t h e o))
-
-  pub close-is : closeHub t h ≡ closeAt (located t h .place) (closeRecord (located t h .refusal) (recordAt (located t h .place) h))
-  close-is = close-by (standingOf t h .issued) (standingOf t h .isOpen) refl refl
+    pub close-is : closeHub t h ≡ releaseBack place h (closeRecord number there)
+    unfolding closeHub ticketChecks closeRecord release put
+    close-is = by-record (λ s. []) (λ r. vacant) (λ r. counted (r .runs)) [] (λ r. []) t h (λ p. releaseBack p h) release-same
 
 -- ---- open
 

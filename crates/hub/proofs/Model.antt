@@ -17,7 +17,7 @@ use Rattle.sponge.proofs.Core.{sum64-fits, sum64-zero, withCoreOf}
 use Rattle.sponge.proofs.Calls.{absorbed-is, absorbed-none, absorbed-append, finished-is, squeezed-is, squeezed-add, finished-again}
 use Rattle.sponge.proofs.Streaming.{calls-feeding-runs, calls-bytes, calls-verdict, calls-ended-runs}
 use Rattle.calls.proofs.Checks.{Tagged}
-use Rattle.calls.specs.Machine.{Entry, formula, runsOf, outputOf, newEntry, afterFeed, afterDraw}
+use Rattle.calls.specs.Machine.{Entry, formula, runsOf, outputOf, newEntry, afterFeed, afterDraw, afterClose, afterCheck}
 use Rattle.calls.proofs.Output.{take-output}
 use Rattle.calls.proofs.Entries.{Good, mostRuns}
 use Rattle.calls.proofs.Sound.{bounded}
@@ -112,6 +112,11 @@ pub fed-model : (bytes : List ℕ) (e : Entry) → e .feeding ≡ true → absor
 unfolding model fedRecord afterFeed
 fed-model bytes e h = rw h (sym (absorbed-append (e .fed) bytes (fresh (e .number) (e .mode) (e .key))))
 
+-- by a close, which leaves nothing of it: the run count is this record's
+pub closed-model : (e : Entry) → model e ≡ model (afterClose e)
+unfolding model fedRecord drawnRecord afterClose
+closed-model e = refl
+
 -- nothing drawn
 squeezed-none : (r : Record) → r .drawn < 2 ^ 64 → squeezed 0 r ≡ r
 unfolding squeezed afterDrawing
@@ -135,9 +140,9 @@ module _ (e : Entry) (g : Good e) where
   unfolding model fedRecord drawnRecord afterDraw
   drawn-model k = ap (squeezed k) ended-model ∙ sym (squeezed-add (e .drawn) k (finished (fedRecord e)) (rw (ended-fields e g) (omega (arith, drawn-small e g))))
 
-  -- by a check
-  pub checked-model : finished (model e) ≡ model (afterDraw 0 e)
-  unfolding model fedRecord drawnRecord afterDraw
+  -- by a check, before it closes the ticket
+  pub checked-model : finished (model e) ≡ model (afterCheck e)
+  unfolding model fedRecord drawnRecord afterDraw afterClose afterCheck
   checked-model = ended-model ∙ ap (λ (d : ℕ). drawnRecord d e) (sym (add-zero (e .drawn)))
 
   -- the bytes that a draw writes
@@ -153,8 +158,8 @@ tag-inside mode h short = subst (λ (m : Mode). row mode .mostDrawn ≤ row m .d
 
 -- the verdict of a check
 pub verdict : (tag : List ℕ) (e : Entry) → Good e → numberOf (e .mode) ≡ 2
-    → tagMatches tag (finished (model e)) ≡ same tag (outputOf (afterDraw 0 e) (row (e .mode) .mostDrawn))
-unfolding fedRecord drawnRecord outputOf afterDraw
+    → tagMatches tag (finished (model e)) ≡ same tag (outputOf (afterCheck e) (row (e .mode) .mostDrawn))
+unfolding fedRecord drawnRecord outputOf afterDraw afterClose afterCheck
 verdict tag e g h =
     let inside = tag-inside (e .mode) h (g .short) in
     ap (tagMatches tag) (ended-model e g)

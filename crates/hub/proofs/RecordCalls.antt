@@ -104,7 +104,7 @@ module _ (n : ℕ) (r : Record) where
       check-4 e18 e4 = rw (e, e18, e4)
 
       pub check-done : not (eqb (numberOf (r .mode)) 2) ≡ false → not (eqb (length tag) (row (r .mode) .mostDrawn)) ≡ false
-          → checkRecord n tag r ≡ step (finished r) (judged (tagMatches tag (finished r)) (finished r .runs)) []
+          → checkRecord n tag r ≡ step vacant (judged (tagMatches tag (finished r)) (finished r .runs)) []
       unfolding checkRecord checkOwn
       check-done e18 e4 = rw (e, e18, e4)
 

@@ -1,25 +1,25 @@
--- The hub beside the plain machine: the places hold the records of the open entries, and the rest are free. What keeps it so.
+-- The hub beside the plain machine: the places hold the records of the open entries, and the rest are free and hold nothing. What keeps it so.
 -- Assumes nothing.
 use mathlib.Core.Bool.{Bool, true, false, cond, not, _&&_}
-use mathlib.Core.Path.{_≡_, refl, sym, ap, _∙_}
+use mathlib.Core.Path.{_≡_, refl, sym, ap, _∙_, subst}
 use mathlib.Core.Logic.{_≢_}
 use mathlib.Core.List.{List, [], _∷_, nil≢cons}
 use Prim.Native.Nat.{ℕ, zero, suc, _+_, _^_, _<_}
 use native.Mathlib.Omega.{arith}
 use native.Mathlib.Decide.{ℕ-discrete, decLt}
 use native.Mathlib.Nat.{add-zero, le-refl}
-use borrow.Author.Tests.{eq-eqb, ne-eqb, le-leb, lt-leb}
+use borrow.Author.Tests.{ne-eqb, le-leb, lt-leb}
 use lib.Dec.{eqb, leb}
-use lib.ListN.{length, length-set, length-append}
+use lib.ListN.{length, getD, length-set, length-append}
 use Rattle.mode.specs.declared.Mode.{Mode}
 use Rattle.sponge.specs.declared.record.Record.{Record}
 use Rattle.sponge.specs.Record.{sum64, vacant}
 use Rattle.sponge.proofs.Core.{sum64-fits}
 use Rattle.calls.specs.Checks.{mostOpen}
-use Rattle.calls.specs.Keyed.{total}
-use Rattle.calls.specs.Machine.{Entry, Machine, emptyMachine, runsOf, newEntry, afterClose, openCount}
+use Rattle.calls.specs.Keyed.{find, total}
+use Rattle.calls.specs.Machine.{Entry, Machine, emptyMachine, runsOf, newEntry, openCount}
 use Rattle.calls.specs.Machine as plain
-use Rattle.calls.proofs.Keyed.{most-total, total-append, all, others, named-is, all-here, all-gone, all-other, all-new, total-set}
+use Rattle.calls.proofs.Keyed.{Every, every-replicate, every-set, every-at, most-total, total-append, all, others, inside, found, named-is, all-here, all-gone, all-other, all-new, total-set}
 use Rattle.calls.proofs.Entries.{number, Good, mostRuns, Sound}
 use Rattle.calls.proofs.Checks.{Tagged}
 use Rattle.calls.proofs.Sound.{bounded, good-new, put-here, put-other, withNew, new-here, new-other}
@@ -47,9 +47,9 @@ runsIn r = r .runs
 abbrev pub taken : Record → ℕ
 taken r = cond (eqb (r .ticket) 0) 0 1
 
--- the runs of a place that is free
-abbrev pub freeRuns : Record → ℕ
-freeRuns r = cond (eqb (r .ticket) 0) (r .runs) 0
+-- where no ticket has it, a place holds the vacant record
+abbrev pub Forgets : Record → Type 0
+Forgets r = r .ticket ≡ 0 → r ≡ vacant
 
 -- 1 for a ticket that is open
 abbrev pub openOne : Entry → ℕ
@@ -64,8 +64,7 @@ pub record Represents (h : Hub) (m : Machine) : Type 0 where
   pub places : length (h .records) ≡ mostOpen
   -- as many places are taken as tickets are open
   pub takes : total taken (h .records) ≡ openCount m
-  -- no free place has runs, which the sum adds too
-  pub frees : total freeRuns (h .records) ≡ 0
+  pub forgets : Every Forgets (h .records)
   -- the runs of the closed tickets and of all places are the formula over all entries, added up
   pub runs : h .closed + total runsIn (h .records) ≡ total runsOf (m .entries)
 
@@ -79,16 +78,25 @@ model-ticket : (e : Entry) → Good e → model e .ticket ≡ e .number
 model-ticket e g = ap ticket (model-fields e g)
 
 -- of an open ticket
-taken-model : (e : Entry) → Good e → 0 < e .number → (taken (model e) ≡ 1) × (freeRuns (model e) ≡ 0)
+taken-model : (e : Entry) → Good e → 0 < e .number → (taken (model e) ≡ 1) × Forgets (model e)
 taken-model e g l =
-    let n : eqb (model e .ticket) 0 ≡ false = ne-eqb (model e .ticket) 0 (λ z. omega (arith, model-ticket e g)) in
-    (rw n, rw n)
+    let n : model e .ticket ≢ 0 = λ z. omega (arith, model-ticket e g) in
+    (rw (ne-eqb (model e .ticket) 0 n), λ z. absurd (n z))
 
 -- none: the place is free
-taken-free : (r : Record) → r .ticket ≡ 0 → (taken r ≡ 0) × (freeRuns r ≡ r .runs)
-taken-free r z = let n : eqb (r .ticket) 0 ≡ true = eq-eqb (r .ticket) 0 z in (rw n, rw n)
+free-is : (h : Hub) (m : Machine) → Represents h m → (x : Record) (xs : List Record) → all ticket 0 (h .records) ≡ x ∷ xs → x ≡ vacant
+free-is h m rep x xs free =
+    let there : getD (h .records) (find ticket 0 (h .records)) vacant ≡ x = found ticket 0 (h .records) x xs free vacant in
+    subst Forgets there
+    (every-at Forgets (h .records) (find ticket 0 (h .records)) vacant (rep .forgets) (inside ticket 0 (h .records) x xs free))
+    (named-is ticket 0 (h .records) x xs free)
 
 -- ---- the record and the entry of a ticket
+
+-- what a call leaves of a ticket with record r: it stays open, or it is closed
+abbrev pub settled : Bool → ℕ → Record → Hub → Hub
+settled true t r h = hub.put t r h
+settled false t r h = hub.release t (r .runs) h
 
 module _ (h : Hub) (m : Machine) (s : Sound m) (rep : Represents h m) (t : ℕ) (e : Entry) (q : all number t (m .entries) ≡ e ∷ []) where
   -- no entry has number 0
@@ -115,20 +123,20 @@ module _ (h : Hub) (m : Machine) (s : Sound m) (rep : Represents h m) (t : ℕ) 
   -- r takes the place of the record, and y that of the entry
   changed : (r : Record) (y : Entry) (closed : ℕ) → y .number ≡ t → ((u : ℕ) → 0 < u → u ≢ t → r .ticket ≢ u)
       → all ticket t (hub.put t r h .records) ≡ models (y ∷ [])
-      → taken r ≡ openOne y → freeRuns r ≡ 0 → closed + r .runs ≡ h .closed + runsOf y
+      → taken r ≡ openOne y → Forgets r → closed + r .runs ≡ h .closed + runsOf y
       → Represents (record { records = hub.put t r h .records; issued = h .issued; closed = closed }) (plain.put t y m)
   unfolding hub.put hub.placeOf plain.put plain.placeOf openCount
-  changed r y closed same apart new takes frees runs = record {
+  changed r y closed same apart new takes forgets runs = record {
     held = λ u l. held-at u l (ℕ-discrete u t);
     listed = λ u. listed-at u (ℕ-discrete u t);
     issues = rep .issues ∙ sym (length-set (m .entries) (plain.placeOf t m) y);
     places = length-set (h .records) (hub.placeOf t h) r ∙ rep .places;
     takes = omega (arith, rep .takes, takes, old .0, opened, at-place taken, at-entry openOne);
-    frees = omega (arith, rep .frees, frees, at-place freeRuns);
+    forgets = every-set Forgets (h .records) (hub.placeOf t h) r (rep .forgets) forgets;
     runs = omega (arith, rep .runs, runs, count e g, at-place runsIn, at-entry runsOf);
   }
     where
-      old : (taken (model e) ≡ 1) × (freeRuns (model e) ≡ 0)
+      old : (taken (model e) ≡ 1) × Forgets (model e)
       old = taken-model e g (omega (arith, above-zero, named-is number t (m .entries) e [] q))
 
       opened : openOne e ≡ 1
@@ -148,26 +156,20 @@ module _ (h : Hub) (m : Machine) (s : Sound m) (rep : Represents h m) (t : ℕ) 
       listed-at u (yes z) = rw (z, put-here t m e y q same) (rep .listed t ∙ ap any q)
       listed-at u (no n) = rw (put-other t m e y q same u n) (rep .listed u)
 
-  -- y is the entry of a ticket that stays open
-  pub stays-open : (y : Entry) → y .number ≡ t → y .isOpen ≡ true → Good y → Represents (hub.put t (model y) h) (plain.put t y m)
-  unfolding hub.put hub.placeOf
-  stays-open y same yo yg =
+  -- y is the new entry of the ticket: it says whether the ticket stays open or is closed
+  pub settles : (y : Entry) → y .number ≡ t → Good y → (b : Bool) → y .isOpen ≡ b → Represents (settled b t (model y) h) (plain.put t y m)
+  unfolding vacant hub.put hub.placeOf hub.release
+  settles y same yg true yo =
       let mine : model y .ticket ≡ t = model-ticket y yg ∙ same in
       let new = taken-model y yg (omega (arith, above-zero)) in
       changed (model y) y (h .closed) same (λ u l n z. n (sym z ∙ mine))
       (all-here ticket t (h .records) (model e) [] here (model y) mine ∙ ap (λ (b : Bool). cond b (model y ∷ []) []) (sym yo))
       (new .0 ∙ ap (λ (b : Bool). cond {A = ℕ} b 1 0) (sym yo)) (new .1) (ap (λ (n : ℕ). h .closed + n) (count y yg))
-
-  -- the ticket is closed
-  pub now-closed :
-      Represents (record { records = hub.put t vacant h .records; issued = h .issued; closed = sum64 (h .closed) (model e .runs) })
-      (plain.put t (afterClose e) m)
-  unfolding afterClose vacant runsOf hub.put hub.placeOf
-  now-closed =
-      changed vacant (afterClose e) (sum64 (h .closed) (model e .runs)) (named-is number t (m .entries) e [] q) (λ u l n z. omega arith)
-      (all-gone ticket t (h .records) (model e) [] here vacant (λ z. omega (arith, above-zero)))
-      refl refl
-      (rw (count e g, sum64-fits (h .closed) (runsOf e) (omega (arith, rep .runs, runs-small m s, bounded e g))) (add-zero (h .closed + runsOf e)))
+  settles y same yg false yo =
+      changed vacant y (sum64 (h .closed) (model y .runs)) same (λ u l n z. omega arith)
+      (all-gone ticket t (h .records) (model e) [] here vacant (λ z. omega (arith, above-zero)) ∙ ap (λ (b : Bool). cond b (model y ∷ []) []) (sym yo))
+      (ap (λ (b : Bool). cond {A = ℕ} b 1 0) (sym yo)) (λ z. refl)
+      (rw (count y yg, sum64-fits (h .closed) (runsOf y) (omega (arith, rep .runs, runs-small m s, bounded y yg))) (add-zero (h .closed + runsOf y)))
 
 -- ---- one more ticket
 
@@ -200,15 +202,15 @@ module _ (h : Hub) (m : Machine) (s : Sound m) (rep : Represents h m) (x : Recor
   unheld = rep .held (m .next) (omega (arith, after)) ∙ ap models (s .above (m .next) (le-refl (m .next)))
 
   pub now-open : Represents (record { records = hub.put 0 (model new) h .records; issued = m .next; closed = h .closed }) (withNew mode key m)
-  unfolding hub.put hub.placeOf openCount withNew newEntry total
+  unfolding vacant hub.put hub.placeOf openCount withNew newEntry total
   now-open = record {
     held = λ u l. held-at u l (ℕ-discrete (m .next) u);
     listed = λ u. listed-at u (ℕ-discrete (m .next) u);
     issues = omega (arith, s .numbered, length-append (m .entries) (new ∷ []));
     places = length-set (h .records) (hub.placeOf 0 h) (model new) ∙ rep .places;
-    takes = omega (arith, rep .takes, old .0, now .0, at-place taken, total-append openOne (m .entries) (new ∷ []));
-    frees = omega (arith, rep .frees, now .1, at-place freeRuns);
-    runs = omega (arith, rep .runs, rep .frees, old .1, now .1, count new good, at-place runsIn, at-place freeRuns, total-append runsOf (m .entries) (new ∷ []));
+    takes = omega (arith, rep .takes, ap taken empty, now .0, at-place taken, total-append openOne (m .entries) (new ∷ []));
+    forgets = every-set Forgets (h .records) (hub.placeOf 0 h) (model new) (rep .forgets) (now .1);
+    runs = omega (arith, rep .runs, ap runsIn empty, count new good, at-place runsIn, total-append runsOf (m .entries) (new ∷ []));
   }
     where
       good : Good new
@@ -217,10 +219,10 @@ module _ (h : Hub) (m : Machine) (s : Sound m) (rep : Represents h m) (x : Recor
       mine : model new .ticket ≡ m .next
       mine = model-ticket new good
 
-      old : (taken x ≡ 0) × (freeRuns x ≡ x .runs)
-      old = taken-free x (named-is ticket 0 (h .records) x xs free)
+      empty : x ≡ vacant
+      empty = free-is h m rep x xs free
 
-      now : (taken (model new) ≡ 1) × (freeRuns (model new) ≡ 0)
+      now : (taken (model new) ≡ 1) × Forgets (model new)
       now = taken-model new good (omega (arith, after))
 
       at-place : (f : Record → ℕ) → total f (hub.put 0 (model new) h .records) + f x ≡ total f (h .records) + f (model new)
@@ -264,6 +266,6 @@ represents-empty = record {
   issues = refl;
   places = refl;
   takes = refl;
-  frees = refl;
+  forgets = every-replicate Forgets mostOpen vacant (λ z. refl);
   runs = refl;
 }

@@ -50,6 +50,10 @@ putAt p r h = record { records = set (h .records) p r; issued = h .issued; close
 unfoldable pub put : ℕ → Record → Hub → Hub
 put t r h = putAt (placeOf t h) r h
 
+-- a ticket is closed after so many runs: its place is free again and holds nothing of its record, and the runs are kept for the sum
+unfoldable pub release : ℕ → ℕ → Hub → Hub
+release t runs h = record { records = put t vacant h .records; issued = h .issued; closed = sum64 (h .closed) runs }
+
 -- what the checks ask about a ticket: it was issued if its number is 1 to `issued`, and it is open if a place has it
 unfoldable pub standingOf : ℕ → Hub → Standing
 standingOf t h =
@@ -83,17 +87,16 @@ drawHub t buffer place count h =
     checked (refuse h buffer) (drawChecks (standingOf t h) buffer place count)
     (step (put t r h) (counted (r .runs)) (written buffer place (nextBytes count ended)))
 
+-- whatever the verdict, the ticket is closed (request K4)
 unfoldable pub checkHub : ℕ → List ℕ → Hub → Step Hub
 checkHub t tag h =
     let r : Record = finished (recordOf t h) in
-    checked (refuse h []) (checkChecks (standingOf t h) tag) (step (put t r h) (judged (tagMatches tag r) (r .runs)) [])
+    checked (refuse h []) (checkChecks (standingOf t h) tag) (step (release t (r .runs) h) (judged (tagMatches tag r) (r .runs)) [])
 
--- the place is free again and holds nothing of the record; its runs are kept for the sum
 unfoldable pub closeHub : ℕ → Hub → Step Hub
 closeHub t h =
     let r : Record = recordOf t h in
-    checked (refuse h []) (ticketChecks (standingOf t h))
-    (step (record { records = put t vacant h .records; issued = h .issued; closed = sum64 (h .closed) (r .runs) }) (counted (r .runs)) [])
+    checked (refuse h []) (ticketChecks (standingOf t h)) (step (release t (r .runs) h) (counted (r .runs)) [])
 
 -- the runs of the closed tickets and of all places
 unfoldable pub sumHub : Hub → Step Hub

@@ -1,10 +1,16 @@
--- The law over lists of calls, and that tickets stand apart: document 01's third demand, for the hub; and what request K2 says of tag lengths and verdicts. The
--- statements are those of `calls`, specs/Law.antt, over the definitions that the calls promise. proofs/Law.antt proves them.
+-- The law over lists of calls, and that tickets stand apart: document 01's third demand, for the hub; what request K2 says of tag lengths and verdicts, and request
+-- K4 of a check. These statements are those of `calls`, specs/Law.antt, over the definitions that the calls promise. The last one is about places, which no answer
+-- shows. proofs/Law.antt proves them.
 -- Assumes nothing.
 use mathlib.Core.List.{List}
-use Rattle.calls.specs.Call.{Call}
-use Rattle.calls.specs.Law.{Law, Numbered, Apart, LengthIgnored, Verdicts}
+use mathlib.Core.Path.{_≡_}
+use Prim.Native.Nat.{ℕ, _<_}
+use Rattle.sponge.specs.Record.{vacant}
+use Rattle.calls.specs.Call.{Call, final}
+use Rattle.calls.specs.Checks.{mostOpen}
+use Rattle.calls.specs.Law.{Law, Numbered, Apart, LengthIgnored, Verdicts, CheckCloses}
 use Rattle.hub.specs.Hub.{emptyHub, onHub}
+use Rattle.hub.specs.Records.{recordAt}
 
 -- so it is for every list of calls, from the empty hub
 abbrev pub HubLaw : Type 0
@@ -25,3 +31,12 @@ HubLengthIgnored = LengthIgnored onHub emptyHub
 -- and an accepted check after any list passes exactly where the tag is the MAC of the bytes fed, of the length that the open named
 abbrev pub HubVerdicts : Type 0
 HubVerdicts = Verdicts onHub emptyHub
+
+-- request K4: an accepted check after any list also closes the ticket, and gives the count of a close
+abbrev pub HubCheckCloses : Type 0
+HubCheckCloses = CheckCloses onHub emptyHub
+
+-- A closed ticket leaves nothing in the hub: after every list, a place that no ticket has holds what all places of the empty hub hold.
+abbrev pub HubForgets : Type 0
+HubForgets =
+    (calls : List Call) (p : ℕ) → p < mostOpen → recordAt p (final onHub emptyHub calls) .ticket ≡ 0 → recordAt p (final onHub emptyHub calls) ≡ vacant

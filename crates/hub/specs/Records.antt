@@ -8,6 +8,7 @@ use lib.Dec.{eqb}
 use lib.ListN.{getD}
 use Rattle.sponge.specs.declared.record.Record.{Record}
 use Rattle.sponge.specs.Record.{vacant, absorbed, finished, nextBytes, squeezed, tagMatches}
+use Rattle.calls.specs.declared.Answer.{Answer}
 use Rattle.calls.specs.Answer.{counted, judged}
 use Rattle.checks.specs.Checks.{OneCheck, refusal, checked}
 use Rattle.checks.specs.Buffers.{written}
@@ -58,10 +59,11 @@ drawRecord n buffer place count r =
     checked (refuse r buffer) (found n ∷ drawOwn (standingAs r) buffer place count)
     (step after (counted (after .runs)) (written buffer place (nextBytes count ended)))
 
+-- a check and a close leave a vacant record
 unfoldable pub checkRecord : ℕ → List ℕ → Record → Step Record
 checkRecord n tag r =
-    let after : Record = finished r in
-    checked (refuse r []) (found n ∷ checkOwn (standingAs r) tag) (step after (judged (tagMatches tag after) (after .runs)) [])
+    let ended : Record = finished r in
+    checked (refuse r []) (found n ∷ checkOwn (standingAs r) tag) (step vacant (judged (tagMatches tag ended) (ended .runs)) [])
 
 unfoldable pub closeRecord : ℕ → Record → Step Record
 closeRecord n r = checked (refuse r []) (found n ∷ []) (step vacant (counted (r .runs)) [])
@@ -74,3 +76,7 @@ workedOf s = record { after = s .after; answer = s .response .answer }
 -- a feed or a draw that is accepted answers with the record's count
 abbrev pub counting : Record → Worked
 counting r = record { after = r; answer = counted (r .runs) }
+
+-- a check or a close is accepted
+abbrev pub vacating : Answer → Worked
+vacating answer = record { after = vacant; answer = answer }

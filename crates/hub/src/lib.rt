@@ -2,7 +2,7 @@
 // reply; `in_place` has feed and close on a hub that stays in its memory. Nothing else writes the hub's fields.
 //
 // A call on a ticket finds the place of its record, works on the record (`records`), and puts it back; a refused call puts back what it found. So there is one way
-// through a call, and no more of the hub is written than one record and, by a close, the runs of the closed tickets.
+// through a call, and no more of the hub is written than one record and, by a check or a close, the runs of the closed tickets.
 
 pub mod in_place;
 mod places;
@@ -158,7 +158,7 @@ pub fn draw(hub: Hub, ticket: u32, buffer: &mut [u8], place: usize, count: usize
     }
 }
 
-// Checks 11, 12, 18, 4. Ends feeding, and draws nothing.
+// Checks 11, 12, 18, 4. Ends feeding, draws nothing, and closes the ticket, whether the tag passes or not.
 pub fn check(hub: Hub, ticket: u32, tag: &[u8]) -> Reply
     ensures { λ r. ⌜ r ≡ spec.replyOf (spec.checkHub ticket (now (tag .entry)) hub) ⌝ }
 {
@@ -170,6 +170,8 @@ pub fn check(hub: Hub, ticket: u32, tag: &[u8]) -> Reply
     let record = checked.after;
     after.records[place] = record;
     let answer = checked.answer;
+    // A refused check answers with no runs.
+    after.closed = std::num::wrapping_add_u64(after.closed, answer.runs);
     Reply {
         hub: after,
         answer: answer,

@@ -33,6 +33,16 @@ impl Worked {
             answer: Answer::counted(after.runs()),
         }
     }
+
+    // An accepted check or close. A vacant record stays, which has nothing of the state.
+    fn closed(answer: Answer) -> Worked
+        ensures { λ r. ⌜ r ≡ spec.vacating answer ⌝ }
+    {
+        Worked {
+            after: Record::vacant(),
+            answer: answer,
+        }
+    }
 }
 
 // Feed's checks, 15 and 16: the number of the first that fails, or 0.
@@ -100,7 +110,7 @@ pub fn draw_record(
     Worked::counted(ended.squeeze(&mut buffer[place..end]))
 }
 
-// Check: 18, 4. A tag has the length that the ticket's open named.
+// Check: 18, 4. A tag has the length that the ticket's open named. Whatever the verdict, the ticket is closed.
 pub fn check_record(refusal: u32, before: Record, tag: &[u8]) -> Worked
     ensures { λ r. ⌜ r ≡ spec.workedOf (spec.checkRecord refusal (now (tag .entry)) before) ⌝ }
 {
@@ -114,23 +124,17 @@ pub fn check_record(refusal: u32, before: Record, tag: &[u8]) -> Worked
     if mode.most_drawn() != tag.len() {
         return Worked::refused(before, 4);
     }
-    let after = before.finish();
-    let passed = after.tag_matches(tag);
-    Worked {
-        after: after,
-        answer: Answer::judged(passed, after.runs()),
-    }
+    let ended = before.finish();
+    let passed = ended.tag_matches(tag);
+    Worked::closed(Answer::judged(passed, ended.runs()))
 }
 
-// Close: none. A vacant record stays, which has nothing of the state.
+// Close: none.
 pub fn close_record(refusal: u32, before: Record) -> Worked
     ensures { λ r. ⌜ r ≡ spec.workedOf (spec.closeRecord refusal before) ⌝ }
 {
     if refusal != 0 {
         return Worked::refused(before, refusal);
     }
-    Worked {
-        after: Record::vacant(),
-        answer: Answer::counted(before.runs()),
-    }
+    Worked::closed(Answer::counted(before.runs()))
 }

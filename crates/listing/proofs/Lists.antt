@@ -11,14 +11,14 @@ use Rattle.mode.specs.Mode.{named}
 use Rattle.checks.specs.Checks.{OneCheck, checked}
 use Rattle.checks.proofs.Checks.{checked-each}
 use Rattle.sponge.specs.declared.record.Record.{Record}
-use Rattle.sponge.specs.Record.{sum64, vacant, absorbed, finished, tagMatches}
+use Rattle.sponge.specs.Record.{absorbed, finished, tagMatches}
 use Rattle.calls.specs.Answer.{counted, judged}
 use Rattle.calls.specs.Checks.{openChecks, ticketChecks, feedChecks, checkChecks}
 use Rattle.calls.specs.declared.Answer.{Answer}
 use Rattle.calls.specs.Call.{Call, Step, step, refuse, Event, events, final}
 use Rattle.hub.specs.declared.Hub.{Hub}
 use Rattle.hub.specs.declared.Reply.{Reply}
-use Rattle.hub.specs.Hub.{absent, recordOf, standingOf, put, admit, openHub, feedHub, checkHub, closeHub, sumHub, onHub, replyOf}
+use Rattle.hub.specs.Hub.{absent, recordOf, standingOf, put, release, admit, openHub, feedHub, checkHub, closeHub, sumHub, onHub, replyOf}
 use Rattle.script.specs.Text.{Wrote}
 use Rattle.script.proofs.Texts.{wrote-none, wrote-more, wrote-inside}
 use Rattle.listing.specs.declared.Listed.{Listed}
@@ -125,14 +125,13 @@ pub check-leaves : (t : ℕ) (tag : List ℕ) (h : Hub) → LeavesNone (checkHub
 unfolding checkHub
 check-leaves t tag h =
     let r : Record = finished (recordOf t h) in
-    checked-leaves (checkChecks (standingOf t h) tag) h (step (put t r h) (judged (tagMatches tag r) (r .runs)) []) refl
+    checked-leaves (checkChecks (standingOf t h) tag) h (step (release t (r .runs) h) (judged (tagMatches tag r) (r .runs)) []) refl
 
 pub close-leaves : (t : ℕ) (h : Hub) → LeavesNone (closeHub t h)
 unfolding closeHub
 close-leaves t h =
     let r : Record = recordOf t h in
-    checked-leaves (ticketChecks (standingOf t h)) h
-    (step (record { records = put t vacant h .records; issued = h .issued; closed = sum64 (h .closed) (r .runs) }) (counted (r .runs)) []) refl
+    checked-leaves (ticketChecks (standingOf t h)) h (step (release t (r .runs) h) (counted (r .runs)) []) refl
 
 pub sum-leaves : (h : Hub) → LeavesNone (sumHub h)
 unfolding sumHub

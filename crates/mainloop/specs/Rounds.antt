@@ -3,7 +3,7 @@
 use mathlib.Core.List.{List, [], _∷_, _++_}
 use Prim.Native.Nat.{ℕ, zero, suc, _*_, _/_, _%_}
 use lib.ListN.{replicate}
-use Rattle.calls.specs.Call.{Call, Open, Feed, Draw, Close, Sum, events}
+use Rattle.calls.specs.Call.{Call, Open, Feed, Draw, Check, Close, Sum, events}
 use Rattle.hub.specs.Hub.{emptyHub, onHub}
 use Rattle.script.specs.Text.{text}
 use Rattle.listing.specs.Listing.{lines}
@@ -32,9 +32,9 @@ roundsFrom i (suc n) bytes = Feed (feedTicket i) bytes ∷ Close (closeTicket i)
 abbrev pub lentOut : List ℕ
 lentOut = replicate 16 170
 
--- an empty hub gets eight PRF tickets under a key and eight of the hash, one of which gives bytes and takes no more
+-- an empty hub gets eight MAC tickets under a key and eight of the hash, one of which gives bytes and takes no more
 unfoldable pub opening : List ℕ → List Call
-opening key = replicate 8 (Open 1 key 0) ++ replicate 8 (Open 3 [] 0) ++ (Draw 14 lentOut 0 3 ∷ [])
+opening key = replicate 8 (Open 2 key 16) ++ replicate 8 (Open 3 [] 16) ++ (Draw 14 lentOut 0 3 ∷ [])
 
 -- draws of 16 bytes from n tickets, from number t on
 unfoldable pub drawsFrom : ℕ → ℕ → List Call
@@ -43,11 +43,11 @@ drawsFrom t (suc n) = Draw t lentOut 0 16 ∷ drawsFrom (suc t) n
 
 -- eight tickets come into the places of closed ones; then draws from every ticket, from closed ones too, and from 25, which was never issued; and the sum
 unfoldable pub ending : List ℕ → List Call
-ending key = replicate 8 (Open 1 key 0) ++ drawsFrom 1 25 ++ (Sum ∷ [])
+ending key = replicate 8 (Open 1 key 16) ++ drawsFrom 1 25 ++ (Sum ∷ [])
 
--- a message of a few bytes is fed by all rounds, and then another by as many
+-- a message of a few bytes is fed by all rounds; a check, with the key for a tag, closes ticket 4; and then another message is fed by as many rounds
 unfoldable pub allCalls : List ℕ → List ℕ → List ℕ → List Call
-allCalls key few message = opening key ++ roundsFrom 0 rounds few ++ roundsFrom 0 rounds message ++ ending key
+allCalls key few message = opening key ++ roundsFrom 0 rounds few ++ (Check 4 key ∷ []) ++ roundsFrom 0 rounds message ++ ending key
 
 -- their list, from an empty hub
 unfoldable pub listText : List ℕ → List ℕ → List ℕ → List ℕ

@@ -153,10 +153,10 @@ fn rounds(before: Hub, in_place: bool, bytes: &[u8], text: &mut [u8], at: usize)
     }
 }
 
-// Eight tickets of one mode.
+// Eight tickets of one mode, with tags of sixteen bytes where it has tags.
 fn open_eight(before: Hub, mode: u32, key: &[u8], text: &mut [u8], at: usize) -> Listed
     requires { ⌜ at ≤ length (now text) ⌝ }
-    ensures { λ r. ⌜ Lists (replicate 8 (Open mode (now (key .entry)) 0)) before (now (text .entry)) at (now (text .exit)) r ⌝ }
+    ensures { λ r. ⌜ Lists (replicate 8 (Open mode (now (key .entry)) 16)) before (now (text .entry)) at (now (text .exit)) r ⌝ }
 {
     let mut current = Listed {
         hub: before,
@@ -165,7 +165,7 @@ fn open_eight(before: Hub, mode: u32, key: &[u8], text: &mut [u8], at: usize) ->
     let mut i = 0usize;
     while i < 8 {
         let before_open = current.hub;
-        current = listing::open(before_open, mode, key, 0, text, current.next);
+        current = listing::open(before_open, mode, key, 16, text, current.next);
         i += 1;
     }
     current
@@ -197,12 +197,12 @@ fn draw_all(before: Hub, text: &mut [u8], at: usize) -> Listed
     current
 }
 
-// Eight PRF tickets and eight of the hash, one of which takes no more bytes.
+// Eight MAC tickets and eight of the hash, one of which takes no more bytes.
 fn opening(before: Hub, key: &[u8], text: &mut [u8], at: usize) -> Listed
     requires { ⌜ at ≤ length (now text) ⌝ }
     ensures { λ r. ⌜ Lists (spec.opening (now (key .entry))) before (now (text .entry)) at (now (text .exit)) r ⌝ }
 {
-    let keyed = open_eight(before, 1, key, text, at);
+    let keyed = open_eight(before, 2, key, text, at);
     let after_keyed = keyed.hub;
     let unkeyed = open_eight(after_keyed, 3, b"", text, keyed.next);
     let after_unkeyed = unkeyed.hub;
@@ -221,7 +221,7 @@ fn ending(before: Hub, key: &[u8], text: &mut [u8], at: usize) -> Listed
     listing::sum(after_drawn, text, drawn.next)
 }
 
-// All calls, on a hub that is lent or handed on by value: the text is the same.
+// All calls, on a hub that is lent or handed on by value: the text is the same. Between the rounds a wrong tag closes ticket 4, and those that follow feed it in vain.
 fn list(in_place: bool, key: &[u8], few: &[u8], message: &[u8], text: &mut [u8], at: usize) -> usize
     ensures { λ r. ⌜ Wrote (now (text .entry)) at (spec.listText (now (key .entry)) (now (few .entry)) (now (message .entry))) (now (text .exit)) r ⌝ }
 {
@@ -230,7 +230,9 @@ fn list(in_place: bool, key: &[u8], few: &[u8], message: &[u8], text: &mut [u8],
     let after_opened = opened.hub;
     let fed_few = rounds(after_opened, in_place, few, text, opened.next);
     let after_few = fed_few.hub;
-    let fed = rounds(after_few, in_place, message, text, fed_few.next);
+    let judged = listing::check(after_few, 4, key, text, fed_few.next);
+    let after_judged = judged.hub;
+    let fed = rounds(after_judged, in_place, message, text, judged.next);
     let after_fed = fed.hub;
     let ended = ending(after_fed, key, text, fed.next);
     ended.next
@@ -274,7 +276,7 @@ const MESSAGE: [u8; 20] = [
     127,
 ];
 
-// The buffer is longer than the text, which has 90,138 bytes.
+// The buffer is longer than the text, which has 90,378 bytes.
 fn main() {
     let key = KEY;
     let few = FEW;

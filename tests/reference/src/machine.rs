@@ -1,4 +1,4 @@
-//! Document 01's plain machine, with the changes K1 and K2, written from its paragraph and its lists of checks alone: it holds what was said, and works every
+//! Document 01's plain machine, with the changes K1, K2 and K4, written from its paragraph and its lists of checks alone: it holds what was said, and works every
 //! output out from the beginning.
 use crate::{permute, sponge, Mode, MODES};
 use std::ops::RangeInclusive;
@@ -28,6 +28,19 @@ pub enum Call {
         ticket: u32,
     },
     Sum,
+}
+
+impl Call {
+    /// The ticket that the call is on, if it is on one.
+    pub fn ticket(&self) -> Option<u32> {
+        match self {
+            Call::Feed { ticket, .. }
+            | Call::Draw { ticket, .. }
+            | Call::Check { ticket, .. }
+            | Call::Close { ticket } => Some(*ticket),
+            Call::Open { .. } | Call::Sum => None,
+        }
+    }
 }
 
 /// Every field of an answer, and the buffer as the call leaves it.
@@ -132,6 +145,7 @@ impl Entry {
         })
     }
 
+    /// The verdict. Pass or fail, the entry is closed after it, and the count is the close's.
     fn check(&mut self, tag: &[u8]) -> Result<Answer, u32> {
         if self.mode.number != 2 {
             return Err(18);
@@ -142,7 +156,7 @@ impl Entry {
         self.feeding = false;
         Ok(Answer {
             passed: self.output(tag.len()) == tag,
-            ..self.accepted()
+            ..self.close()
         })
     }
 
@@ -230,5 +244,124 @@ impl Machine {
             sum: self.entries.iter().map(Entry::runs).sum(),
             ..Answer::default()
         }
+    }
+}
+
+#[cfg(test)]
+mod tests {
+    use super::*;
+    use crate::{counting, mac, KEY};
+
+    fn open(mode: u32, tag_length: u32) -> Call {
+        let key = if mode < 3 { KEY.to_vec() } else { Vec::new() };
+        Call::Open {
+            mode,
+            key,
+            tag_length,
+        }
+    }
+
+    fn feed(ticket: u32, bytes: &[u8]) -> Call {
+        let bytes = bytes.to_vec();
+        Call::Feed { ticket, bytes }
+    }
+
+    fn draw(ticket: u32, count: usize) -> Call {
+        Call::Draw {
+            ticket,
+            buffer: vec![0; count],
+            place: 0,
+            count: count as u64,
+        }
+    }
+
+    fn check(ticket: u32, tag: &[u8]) -> Call {
+        let tag = tag.to_vec();
+        Call::Check { ticket, tag }
+    }
+
+    fn close(ticket: u32) -> Call {
+        Call::Close { ticket }
+    }
+
+    /// The tag of a message, right or with its last bit changed.
+    fn tag(message: &[u8], length: usize, right: bool) -> Vec<u8> {
+        let mut tag = mac(&KEY, message, length);
+        tag[length - 1] ^= u8::from(!right);
+        tag
+    }
+
+    /// What every call on ticket 1 is refused with.
+    fn refusals(machine: &mut Machine, tag: &[u8]) -> [u32; 4] {
+        [feed(1, &[]), draw(1, 0), check(1, tag), close(1)].map(|call| machine.call(&call).refusal)
+    }
+
+    /// A machine with two tickets, a MAC and a hash. The first is fed a message, and so many bytes are drawn from it; with none, feeding goes on.
+    fn fed(tag_length: usize, message: &[u8], drawn: usize) -> Machine {
+        let mut machine = Machine::default();
+        machine.call(&open(2, tag_length as u32));
+        machine.call(&open(3, 0));
+        machine.call(&feed(1, message));
+        if drawn > 0 {
+            machine.call(&draw(1, drawn));
+        }
+        machine
+    }
+
+    /// Count and sum are those of another machine, on which a draw of nothing ends feeding, and a close follows.
+    #[test]
+    fn a_check_closes() {
+        for (n, drawn) in [(0, 0), (31, 0), (32, 0), (33, 1), (64, 7), (100, 8)] {
+            for (length, right) in [(8, true), (8, false), (16, true), (16, false)] {
+                let message = counting(n);
+                let tag = tag(&message, length, right);
+                let (mut machine, mut other) =
+                    (fed(length, &message, drawn), fed(length, &message, drawn));
+                let checked = machine.call(&check(1, &tag));
+                other.call(&draw(1, 0));
+                let closed = other.call(&close(1));
+                let verdict = Answer {
+                    passed: right,
+                    runs: n as u64 / 32 + 2,
+                    ..Answer::default()
+                };
+                assert_eq!((checked.runs, &checked), (closed.runs, &verdict));
+                assert_eq!(refusals(&mut machine, &tag), [12; 4]);
+                let sums = [machine, other].map(|mut machine| machine.call(&Call::Sum).sum);
+                assert_eq!(sums, [verdict.runs + 1; 2]);
+            }
+        }
+    }
+
+    /// A check that is refused, with 4 or 18, leaves its ticket open, and feeding goes on.
+    #[test]
+    fn a_refused_check_closes_nothing() {
+        for (mode, length, refusal) in [(2, 7, 4), (2, 9, 4), (2, 16, 4), (1, 8, 18), (3, 8, 18)] {
+            let mut machine = Machine::default();
+            machine.call(&open(mode, 8));
+            let tag = tag(&[], length, true);
+            assert_eq!(machine.call(&check(1, &tag)).refusal, refusal);
+            assert_eq!(machine.call(&Call::Sum).sum, 1);
+            assert_eq!(refusals(&mut machine, &tag), [0, 0, refusal, 0]);
+        }
+    }
+
+    /// With sixteen open, a check makes room for one more, whatever its verdict, and a refused one makes none.
+    #[test]
+    fn a_check_makes_room() {
+        let mut machine = Machine::default();
+        for ticket in 1..=16 {
+            assert_eq!(machine.call(&open(2, 8)).ticket, ticket);
+        }
+        for (ticket, right) in [(9, true), (1, false), (16, true), (17, false), (18, true)] {
+            assert_eq!(machine.call(&check(ticket, &[0; 7])).refusal, 4);
+            assert_eq!(machine.call(&open(2, 8)).refusal, 13);
+            let verdict = machine.call(&check(ticket, &tag(&[], 8, right)));
+            assert_eq!((verdict.refusal, verdict.passed), (0, right));
+            assert_eq!(machine.call(&open(2, 8)).refusal, 0);
+        }
+        assert_eq!(machine.call(&open(2, 8)).refusal, 13);
+        // Five tickets made two runs, and sixteen one.
+        assert_eq!(machine.call(&Call::Sum).sum, 26);
     }
 }

@@ -2,7 +2,7 @@
 use reference::listing::{changes_found, parse, uses, wrong, Line};
 use reference::machine::Call;
 use reference::MODES;
-use std::collections::BTreeSet;
+use std::collections::{BTreeMap, BTreeSet};
 use std::path::Path;
 
 fn printed() -> String {
@@ -13,7 +13,7 @@ fn printed() -> String {
 #[test]
 fn every_answer_and_every_byte_is_the_plain_machines() {
     let text = printed();
-    assert_eq!(text.lines().count(), 318);
+    assert_eq!(text.lines().count(), 328);
     assert_eq!(wrong(&text), []);
 }
 
@@ -45,6 +45,27 @@ fn every_kind_of_call_and_refusal_occurs() {
         ["check", "close", "draw", "feed", "open", "sum"]
     );
     assert_eq!(verdicts.into_iter().collect::<Vec<_>>(), [false, true]);
+}
+
+/// A check closes its ticket: after a tag that passed, and after one that failed, a call on the ticket is refused with 12.
+#[test]
+fn tickets_are_called_on_after_each_verdict() {
+    let mut verdicts = BTreeMap::new();
+    let mut refused = BTreeSet::new();
+    for line in printed().lines() {
+        match parse(line) {
+            Line::Empty => verdicts.clear(),
+            Line::Often(..) => (),
+            Line::Call(call, answer) => match (&call, answer.refusal) {
+                (Call::Check { ticket, .. }, 0) => {
+                    verdicts.insert(*ticket, answer.passed);
+                }
+                (_, 12) => refused.extend(call.ticket().and_then(|t| verdicts.get(&t).copied())),
+                _ => (),
+            },
+        }
+    }
+    assert_eq!(refused.into_iter().collect::<Vec<_>>(), [false, true]);
 }
 
 /// Every mode is fed more than a block at once; and a draw crosses a block, but in the MAC, which gives no more than one.

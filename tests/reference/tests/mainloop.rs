@@ -25,7 +25,7 @@ fn both_lists_are_the_same() {
 #[test]
 fn every_answer_and_every_byte_is_the_plain_machines() {
     let (_, in_place) = printed();
-    assert_eq!(in_place.lines().count(), 652);
+    assert_eq!(in_place.lines().count(), 653);
     assert_eq!(wrong(&in_place), []);
 }
 
@@ -55,10 +55,29 @@ fn each_round_feeds_its_message() {
 fn tickets_that_were_fed_are_drawn_from() {
     let (_, in_place) = printed();
     let uses = uses(&in_place);
-    for mode in [1, 3] {
+    for (mode, least) in [(2, 1), (3, 2)] {
         let drawn = uses[&mode].drawn.iter().filter(|n| **n > 8).count();
-        assert!(uses[&mode].fed == 20 && drawn > 1, "{mode} {uses:?}");
+        assert!(uses[&mode].fed == 20 && drawn >= least, "{mode} {uses:?}");
     }
+}
+
+/// A check between the rounds closes its ticket: those before it feed the ticket, and those after it are refused with 12.
+#[test]
+fn a_checked_ticket_takes_no_more() {
+    let (_, in_place) = printed();
+    let mut judged = false;
+    let mut refusals = [Vec::new(), Vec::new()];
+    for line in in_place.lines() {
+        match parse(line) {
+            Line::Call(Call::Check { ticket: 4, .. }, answer) => judged = answer.refusal == 0,
+            Line::Call(Call::Feed { ticket: 4, .. }, answer) => {
+                refusals[judged as usize].push(answer.refusal)
+            }
+            _ => (),
+        }
+    }
+    assert!(judged);
+    assert_eq!(refusals, [vec![0; 9], vec![12; 9]]);
 }
 
 #[test]

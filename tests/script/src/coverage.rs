@@ -34,7 +34,11 @@ const AT_A_LIMIT: [&str; 4] = [
     "past the limit where none is left",
 ];
 
-const OTHERS: [&str; 20] = [
+/// What a check on an open ticket is answered, and later calls on that ticket, which show that a verdict has closed it and a refusal has not.
+const CHECKED: [&str; 4] = ["pass", "fail", "no 4", "no 18"];
+const NEXT: [&str; 4] = ["then feed", "then draw", "then check", "then close"];
+
+const OTHERS: [&str; 24] = [
     "open 2 with tags of 8",
     "open 2 with tags of 9",
     "open 2 with tags of 10",
@@ -52,8 +56,12 @@ const OTHERS: [&str; 20] = [
     "no 4 for a tag that other tickets take",
     "open the sixteenth",
     "open in a place that served before",
-    "draw after a check",
-    "check after a draw",
+    "pass after a draw",
+    "fail after a draw",
+    "pass between two sums",
+    "fail between two sums",
+    "pass with sixteen open, then open",
+    "fail with sixteen open, then open",
     "stop",
 ];
 
@@ -63,6 +71,7 @@ pub fn missing(reached: &BTreeSet<String>) -> Vec<String> {
     for (call, answers) in ANSWERS
         .iter()
         .chain(&LIMITED.map(|call| (call, &AT_A_LIMIT[..])))
+        .chain(&CHECKED.map(|answer| (answer, &NEXT[..])))
     {
         all.extend(answers.iter().map(|answer| format!("{call} {answer}")));
     }
@@ -70,14 +79,14 @@ pub fn missing(reached: &BTreeSet<String>) -> Vec<String> {
     all
 }
 
-/// Of a MAC all that was fed is kept, so that a tag can be told from another one that was cut.
+/// Of a MAC all that was fed is kept, so that a tag can be told from another one that was cut; of a ticket that no close has closed, what its last check was answered.
 struct Ticket {
     mode: Mode,
     key: Vec<u8>,
     message: Vec<u8>,
     fed: usize,
     drawn: usize,
-    checked: bool,
+    checked: Option<String>,
 }
 
 impl Ticket {
@@ -95,7 +104,12 @@ impl Ticket {
 pub struct Watch {
     pub reached: BTreeSet<String>,
     tickets: Vec<Ticket>,
-    closed: usize,
+    /// How many of them are open.
+    open: usize,
+    /// What the last two calls were, with their answers.
+    last: [String; 2],
+    /// The verdict that closed one of sixteen, until a place is taken or one more is free.
+    freed: Option<&'static str>,
 }
 
 impl Watch {
@@ -114,7 +128,9 @@ impl Watch {
             (_, 0) => "ok".to_string(),
             (_, refusal) => format!("no {refusal}"),
         };
-        self.reached.insert(format!("{name} {answered}"));
+        if let Some(ticket) = call.ticket() {
+            self.called(ticket, name);
+        }
         match (call, answer.refusal) {
             (
                 Call::Open {
@@ -130,13 +146,24 @@ impl Watch {
             }
             (Call::Feed { ticket, bytes }, 0 | 16) => self.fed(*ticket, bytes),
             (Call::Draw { ticket, count, .. }, 0 | 17) => self.drawn(*ticket, *count as usize),
-            (Call::Check { ticket, tag }, 0) => self.checked(*ticket, tag, answer.passed),
+            (Call::Check { ticket, tag }, 0) => self.judged(*ticket, tag, answer.passed),
             (Call::Check { tag, .. }, 4) if TAG_LENGTHS.contains(&tag.len()) => {
                 self.reach("no 4 for a tag that other tickets take");
             }
-            (Call::Close { .. }, 0) => self.closed += 1,
+            (Call::Close { ticket }, 0) => {
+                self.ticket(*ticket).checked = None;
+                self.closed(None);
+            }
+            (Call::Sum, _) => self.summed(),
             _ => (),
         }
+        if let (Call::Check { ticket, .. }, 0 | 4 | 18) = (call, answer.refusal) {
+            self.ticket(*ticket).checked = Some(answered.clone());
+        }
+        let seen = format!("{name} {answered}");
+        self.reach(&seen);
+        self.last.rotate_left(1);
+        self.last[1] = seen;
     }
 
     /// Where all that was printed ends.
@@ -163,13 +190,39 @@ impl Watch {
             message: Vec::new(),
             fed: 0,
             drawn: 0,
-            checked: false,
+            checked: None,
         });
-        if self.tickets.len() - self.closed == 16 {
+        self.open += 1;
+        if self.open == 16 {
             self.reach("open the sixteenth");
         }
         if self.tickets.len() > 16 {
             self.reach("open in a place that served before");
+        }
+        if let Some(verdict) = self.freed.take() {
+            self.reach(&format!("{verdict} with sixteen open, then open"));
+        }
+    }
+
+    /// A ticket was closed: by a check, if there is a verdict.
+    fn closed(&mut self, verdict: Option<&'static str>) {
+        self.freed = verdict.filter(|_| self.open == 16);
+        self.open -= 1;
+    }
+
+    /// A call on a ticket, which may have been checked before.
+    fn called(&mut self, number: u32, name: &str) {
+        let place = (number as usize).wrapping_sub(1);
+        let checked = self.tickets.get(place).and_then(|t| t.checked.clone());
+        if let Some(answered) = checked {
+            self.reach(&format!("{answered} then {name}"));
+        }
+    }
+
+    fn summed(&mut self) {
+        let last = self.last.each_ref().map(String::as_str);
+        if let ["sum ok", "check pass" | "check fail"] = last {
+            self.reach(&format!("{} between two sums", &last[1][6..]));
         }
     }
 
@@ -203,26 +256,22 @@ impl Watch {
 
     fn drawn(&mut self, number: u32, count: usize) {
         let ticket = self.ticket(number);
-        let (name, checked) = (ticket.draw(), ticket.checked);
-        let left = ticket.mode.most_drawn - ticket.drawn;
+        let (name, left) = (ticket.draw(), ticket.mode.most_drawn - ticket.drawn);
         if self.at_a_limit(&name, count, left) {
             self.ticket(number).drawn += count;
-            if checked && count > 0 {
-                self.reach("draw after a check");
-            }
         }
     }
 
-    fn checked(&mut self, number: u32, tag: &[u8], passed: bool) {
+    fn judged(&mut self, number: u32, tag: &[u8], passed: bool) {
+        let verdict = if passed { "pass" } else { "fail" };
         let ticket = self.ticket(number);
-        ticket.checked = true;
         // What it costs to tell a cut tag is spent on short messages alone.
         let cut = !passed && tag.len() < 16 && ticket.message.len() < 1_000 && {
             let key = ticket.key[..].try_into().expect("sixteen bytes");
             mac(key, &ticket.message, 16).starts_with(tag)
         };
         if ticket.drawn > 0 {
-            self.reach("check after a draw");
+            self.reach(&format!("{verdict} after a draw"));
         }
         if passed {
             self.reach(&format!("pass with tags of {}", tag.len()));
@@ -230,5 +279,6 @@ impl Watch {
         if cut {
             self.reach("fail with a longer tag that was cut");
         }
+        self.closed(Some(verdict));
     }
 }

@@ -198,14 +198,11 @@ fn in_turns() {
     converse(vec![
         ("call number bytes\n", vec!["answer number bytes"]),
         (&format!("{OPEN_MAC}\n"), vec!["ok 1 -"]),
-        (
-            "check 1 eb1af688825d66bf2d53e135f9323315\n",
-            vec!["pass 2 -"],
-        ),
+        ("draw 1 0001\n", vec!["ok 2 eb"]),
         ("sum 0 -\nsum 0 -\nsu", vec!["ok 2 -", "ok 2 -"]),
-        ("m 0 -\nclose 1 ", vec!["ok 2 -"]),
-        ("-", vec![]),
-        ("\n", vec!["ok 2 -"]),
+        ("m 0 -\ncheck 1 eb1af688825d66bf2d", vec!["ok 2 -"]),
+        ("53e135f9323315", vec![]),
+        ("\n", vec!["pass 2 -"]),
         ("draw 1 0001\n", vec!["no 12 -"]),
         ("close 1\n", vec!["stop 9 -"]),
     ]);

@@ -10,6 +10,9 @@ const XOF: &str = "5d4cbde6350ea4c174bd65b5b332f8408f99740b81aa02735eaefbcf0ba03
 const HASHA: &str = "aecd027026d0675f9de7a8ad8ccf512db64b1edcf0b20c388a0c7cc617aaa2c4";
 const XOFA: &str = "7c10dffd6bb03be262d72fbe1b0f530013c6c4eadaabde278d6f29d579e3908d";
 
+/// The MAC with its last bit changed.
+const WRONG: &str = "eb1af688825d66bf2d53e135f9323314";
+
 /// The MAC of no bytes under that key with tags of 8, 9, .. bytes, of the outside vectors. None begins as a longer one does.
 const TAGS: [&str; 9] = [
     "3dc064871d4064a2",
@@ -69,50 +72,85 @@ fn outputs_and_verdicts() {
         .line("draw 1 0001", draw(8, 9, 3))
         .line("draw 1 0017", draw(9, 32, 5))
         .line("draw 1 0000", "ok 5 -");
-    // The MAC: its tag, damaged in the first and the last bit, and drawn afterwards.
-    talk.line(OPEN_MAC, "ok 2 -")
-        .line(format!("check 2 {MAC}"), "pass 2 -")
-        .line(format!("check 2 6{}", &MAC[1..]), "fail 2 -")
-        .line(format!("check 2 {}4", &MAC[..31]), "fail 2 -")
-        .line("draw 2 0010", format!("ok 2 {MAC}"))
-        .line(format!("check 2 {MAC}"), "pass 2 -");
     // The XOF at once, and the hash and the XOF that have shorter runs: each of these counts as one, too.
-    for (mode, ticket, output) in [(4, 3, XOF), (5, 4, HASHA), (6, 5, XOFA)] {
+    for (mode, ticket, output) in [(4, 2, XOF), (5, 3, HASHA), (6, 4, XOFA)] {
         talk.line(format!("open {mode} -"), format!("ok {ticket} -"))
             .line(format!("draw {ticket} 0020"), format!("ok 5 {output}"));
     }
-    talk.line("sum 0 -", "ok 22 -")
-        .line("close 2 -", "ok 2 -")
-        .line("close 1 -", "ok 5 -");
-    for ticket in 3..=5 {
+    // The MAC: drawn, and then its tag; and its tag, damaged in the first and the last bit.
+    talk.line(OPEN_MAC, "ok 5 -")
+        .line("draw 5 0010", format!("ok 2 {MAC}"))
+        .line(format!("check 5 {MAC}"), "pass 2 -")
+        .line(OPEN_MAC, "ok 6 -")
+        .line(format!("check 6 6{}", &MAC[1..]), "fail 2 -")
+        .line(OPEN_MAC, "ok 7 -")
+        .line(format!("check 7 {WRONG}"), "fail 2 -");
+    talk.line("sum 0 -", "ok 26 -");
+    for ticket in 1..=4 {
         talk.line(format!("close {ticket} -"), "ok 5 -");
     }
-    talk.line("sum 0 -", "ok 22 -").assert();
+    talk.line("sum 0 -", "ok 26 -").assert();
+}
+
+/// The count of a check is that of a close after it. On the other ticket a draw of nothing ends feeding, as a check does, and a close follows.
+#[test]
+fn a_check_counts_as_a_close() {
+    let mut talk = Talk::default();
+    let counts = [
+        (0, 1, 2),
+        (31, 1, 2),
+        (32, 2, 3),
+        (33, 2, 3),
+        (1_000, 32, 33),
+    ];
+    for ((fed, feeding, ended), checked) in counts.into_iter().zip((1..).step_by(2)) {
+        let closed = checked + 1;
+        for ticket in [checked, closed] {
+            talk.line(OPEN_MAC, format!("ok {ticket} -")).line(
+                format!("feed {ticket} {}", bytes(fed)),
+                format!("ok {feeding} -"),
+            );
+        }
+        talk.line(
+            format!("check {checked} {WRONG}"),
+            format!("fail {ended} -"),
+        )
+        .line(format!("draw {closed} 0000"), format!("ok {ended} -"))
+        .line(format!("close {closed} -"), format!("ok {ended} -"));
+    }
+    // 2 + 2 + 3 + 3 + 33 runs, twice.
+    talk.line("sum 0 -", "ok 86 -").assert();
 }
 
 /// A tag of each length passes on the ticket of its length, alone and whole: the first bytes of a longer one fail, and tags of other lengths are refused.
 #[test]
 fn tags_of_each_length() {
     let mut talk = Talk::default();
-    for (tag, ticket) in TAGS.into_iter().zip(1..) {
-        let length = tag.len() / 2;
+    let mut ticket = 0;
+    let mut open = |talk: &mut Talk, length: usize| {
+        ticket += 1;
         let open = format!("open 2 000102030405060708090a0b0c0d0e0f{length:02x}");
         talk.line(open, format!("ok {ticket} -"));
-        for other in TAGS {
-            let (whole, cut) = (format!("check {ticket} {other}"), 2 * length);
-            if other == tag {
-                talk.line(whole, "pass 2 -");
-            } else {
-                talk.line(whole, "no 4 -");
-            }
-            if other.len() > cut {
-                talk.line(format!("check {ticket} {}", &other[..cut]), "fail 2 -");
-            }
+        ticket
+    };
+    for tag in TAGS {
+        let length = tag.len() / 2;
+        let own = open(&mut talk, length);
+        for other in TAGS.into_iter().filter(|other| *other != tag) {
+            talk.line(format!("check {own} {other}"), "no 4 -");
         }
-        talk.line(format!("draw {ticket} {length:04x}"), format!("ok 2 {tag}"))
-            .line(format!("close {ticket} -"), "ok 2 -");
+        talk.line(format!("check {own} {tag}"), "pass 2 -");
+        for longer in TAGS.into_iter().filter(|other| other.len() > tag.len()) {
+            let cut = open(&mut talk, length);
+            let check = format!("check {cut} {}", &longer[..tag.len()]);
+            talk.line(check, "fail 2 -");
+        }
+        let drawn = open(&mut talk, length);
+        talk.line(format!("draw {drawn} {length:04x}"), format!("ok 2 {tag}"))
+            .line(format!("close {drawn} -"), "ok 2 -");
     }
-    talk.line("sum 0 -", "ok 18 -").assert();
+    // 54 tickets, of which 36 are for tags that were cut.
+    talk.line("sum 0 -", "ok 108 -").assert();
 }
 
 #[test]
@@ -177,11 +215,13 @@ fn refusal_4_tag_length() {
         for count in (0..=17).chain([32, 264, 1024]).filter(|c| *c != length) {
             talk.line(check(count), "no 4 -");
         }
-        // Refused checks have not ended feeding; accepted ones do.
+        // Refused checks have not ended feeding, and have not closed the ticket.
         talk.line(format!("feed {ticket} -"), "ok 1 -")
+            .line(format!("draw {ticket} 0000"), "ok 2 -")
+            .line(check(length - 1), "no 4 -")
             .line(check(length), "fail 2 -")
-            .line(format!("feed {ticket} -"), "no 15 -")
-            .line(check(length - 1), "no 4 -");
+            // 12 is before 4.
+            .line(check(length - 1), "no 12 -");
     }
     talk.assert();
 }
@@ -203,34 +243,50 @@ fn refusal_11_never_issued() {
     talk.line("feed 1 00", "ok 1 -")
         .line("draw 1 0000", "ok 2 -")
         .line(format!("check 1 {}", bytes(16)), "fail 2 -")
-        .line("close 1 -", "ok 2 -")
+        // Issued, and closed by the check.
+        .line("close 1 -", "no 12 -")
         .assert();
 }
 
+/// By a close, and by a check, whatever its verdict.
 #[test]
 fn refusal_12_closed() {
-    assert_talk(&[
-        (OPEN_MAC, "ok 1 -"),
-        ("close 1 -", "ok 1 -"),
-        ("feed 1 -", "no 12 -"),
-        ("draw 1 0400", "no 12 -"),
-        ("check 1 -", "no 12 -"),
-        ("close 1 -", "no 12 -"),
-        // Its place serves again; its number does not.
-        (OPEN_MAC, "ok 2 -"),
-        ("feed 1 00", "no 12 -"),
-        ("feed 2 00", "ok 1 -"),
-        ("close 1 -", "no 12 -"),
-        ("close 2 -", "ok 1 -"),
-        ("sum 0 -", "ok 2 -"),
-    ]);
+    let (right, wrong) = (format!("check 1 {MAC}"), format!("check 1 {WRONG}"));
+    for (closing, answer, runs) in [
+        ("close 1 -", "ok 1 -", 1),
+        (&right, "pass 2 -", 2),
+        (&wrong, "fail 2 -", 2),
+    ] {
+        let mut talk = Talk::default();
+        talk.lines(&[(OPEN_MAC, "ok 1 -"), ("sum 0 -", "ok 1 -")])
+            .line(closing, answer)
+            .line("sum 0 -", format!("ok {runs} -"))
+            .lines(&[
+                ("feed 1 -", "no 12 -"),
+                ("draw 1 0000", "no 12 -"),
+                ("draw 1 0400", "no 12 -"),
+                ("check 1 -", "no 12 -"),
+                (&right, "no 12 -"),
+                (&wrong, "no 12 -"),
+                ("close 1 -", "no 12 -"),
+                // Its place serves again; its number does not.
+                (OPEN_MAC, "ok 2 -"),
+                ("feed 1 00", "no 12 -"),
+                (&right, "no 12 -"),
+                ("feed 2 00", "ok 1 -"),
+                ("close 1 -", "no 12 -"),
+                ("close 2 -", "ok 1 -"),
+            ])
+            .line("sum 0 -", format!("ok {} -", runs + 1))
+            .assert();
+    }
 }
 
 #[test]
 fn refusal_13_sixteen_open() {
     let mut talk = Talk::default();
     for ticket in 1..=16 {
-        talk.line("open 3 -", format!("ok {ticket} -"));
+        talk.line(OPEN_MAC, format!("ok {ticket} -"));
     }
     talk.line("open 3 -", "no 13 -")
         .line(OPEN_PRF, "no 13 -")
@@ -241,14 +297,25 @@ fn refusal_13_sixteen_open() {
         .line("open 2 -", "no 2 -")
         .line(open_mac(16, 7), "no 21 -")
         .line(open_mac(16, 17), "no 21 -")
+        // A check that is refused makes no room.
+        .line("check 9 -", "no 4 -")
+        .line("open 3 -", "no 13 -")
         .line("sum 0 -", "ok 16 -");
-    // Any place serves again, with the next number: refused opens have taken none.
-    for (closed, opened) in [(9, 17), (1, 18), (16, 19), (17, 20)] {
-        talk.line(format!("close {closed} -"), "ok 1 -")
-            .line("open 4 -", format!("ok {opened} -"))
-            .line("open 4 -", "no 13 -");
+    // Any place serves again, after a close, a right tag and a wrong one, with the next number: refused opens have taken none. The next ticket begins there afresh.
+    for (closing, answer, opened) in [
+        ("close 9 -".to_string(), "ok 1 -", 17),
+        (format!("check 1 {MAC}"), "pass 2 -", 18),
+        (format!("check 16 {WRONG}"), "fail 2 -", 19),
+        ("close 17 -".to_string(), "ok 2 -", 20),
+        (format!("check 20 {WRONG}"), "fail 2 -", 21),
+        (format!("check 21 {MAC}"), "pass 2 -", 22),
+    ] {
+        talk.line(closing, answer)
+            .line(OPEN_MAC, format!("ok {opened} -"))
+            .line(OPEN_MAC, "no 13 -")
+            .line(format!("draw {opened} 0010"), format!("ok 2 {MAC}"));
     }
-    talk.line("sum 0 -", "ok 20 -").assert();
+    talk.line("sum 0 -", "ok 30 -").assert();
 }
 
 #[test]
@@ -261,7 +328,7 @@ fn refusal_15_feeding_has_ended() {
         ("feed 1 00", "no 15 -"),
         (OPEN_MAC, "ok 2 -"),
         ("feed 2 00", "ok 1 -"),
-        ("check 2 00000000000000000000000000000000", "fail 2 -"),
+        ("draw 2 0000", "ok 2 -"),
         ("feed 2 00", "no 15 -"),
         ("open 4 -", "ok 3 -"),
         ("draw 3 0001", "ok 2 5d"),

@@ -17,7 +17,7 @@ abbrev Inv-loop : tie.InvT-loop
 Inv-loop sample text₀ plan current₀ i₀ text current i = (length text ≡ length text₀) × TextLeft (planText plan sample emptyHub) text₀ 0 (planText (drop i plan) sample (current .hub)) text (current .next)
 
 abbrev μ-loop : tie.MeasureT-loop
-μ-loop sample text₀ plan current₀ i₀ text current i = 90 - i
+μ-loop sample text₀ plan current₀ i₀ text current i = 100 - i
 
 empty-requires : tie.Need-empty-requires Inv-loop μ-loop
 empty-requires c κs = search needs

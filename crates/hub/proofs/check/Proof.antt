@@ -1,12 +1,14 @@
 -- `hub::check` meets its contract.
 -- Assumes nothing.
-use mathlib.Core.Path.{sym, ap, _∙_}
+use mathlib.Core.Path.{_≡_, sym, ap, _∙_}
+use Prim.Native.Nat.{ℕ, _<_, _^_}
+use Rattle.sponge.specs.Record.{sum64}
 use Rattle.hub.specs.declared.Hub.{Hub}
 use Rattle.hub.specs.declared.places.Located.{Located}
 use Rattle.hub.specs.declared.records.Worked.{Worked}
 use Rattle.hub.specs.Hub.{replyOf}
 use Rattle.hub.specs.Records.{recordAt, checkRecord, workedOf}
-use Rattle.hub.proofs.Calls.{replied, check-is}
+use Rattle.hub.proofs.Calls.{withClosed, released, check-is}
 use borrow.Author.Needs.{needs}
 use Rattle.hub.proofs.check.Statement.{statement}
 use Rattle.hub.proofs.check.Tie as tie
@@ -29,15 +31,25 @@ mul-record c = search needs
 element-set-from-record : tie.Need-element-set-from-record
 element-set-from-record c = search needs
 
+wrapping-add-u64-requires : tie.Need-wrapping-add-u64-requires
+wrapping-add-u64-requires c κs = search needs
+
+closed-fits : (c : tie.Start) → c .args .hub .closed < 2 ^ 64
+closed-fits c = search needs
+
 returns : tie.Need-returns
+unfolding sum64
 returns c =
-    let a = c .before .before .before .before .before .before .args in
+    let start = c .before .before .before .before .before .before .before in
+    let a = start .args in
     let h : Hub = a .hub in
-    let l : Located = c .before .before .before .before .locate .result in
-    ap (λ (w : Worked). replied (l .place) w h) (c .before .before .check-record .ensures)
-    ∙ ap (λ (m : Located). replied (m .place) (workedOf (checkRecord (m .refusal) (a .tag .now) (recordAt (m .place) h))) h)
-    (c .before .before .before .before .locate .ensures .0)
-    ∙ sym (ap replyOf (check-is (a .ticket) h (a .tag .now)))
+    let l : Located = c .before .before .before .before .before .locate .result in
+    let w : Worked = c .before .before .before .check-record .result in
+    let more : c .wrapping-add-u64 .result ≡ sum64 (h .closed) (w .answer .runs) = c .wrapping-add-u64 .ensures in
+    ap (withClosed (l .place) w h) more
+    ∙ ap (λ (v : Worked). released (l .place) v h) (c .before .before .before .check-record .ensures)
+    ∙ ap (λ (m : Located). released (m .place) (workedOf (checkRecord (m .refusal) (a .tag .now) (recordAt (m .place) h))) h) (c .before .before .before .before .before .locate .ensures .0)
+    ∙ sym (ap replyOf (check-is (a .ticket) h (closed-fits start) (a .tag .now)))
 
 pub check-spec : {M : Type 1} → statement M
 check-spec =
@@ -49,4 +61,5 @@ check-spec =
     check-record-requires
     mul-record
     element-set-from-record
+    wrapping-add-u64-requires
     returns)

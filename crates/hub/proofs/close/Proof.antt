@@ -4,19 +4,14 @@ use mathlib.Core.Path.{_≡_, sym, ap, _∙_}
 use Prim.Native.Nat.{ℕ, _<_, _^_}
 use Rattle.sponge.specs.Record.{sum64}
 use Rattle.hub.specs.declared.Hub.{Hub}
-use Rattle.hub.specs.declared.Reply.{Reply}
 use Rattle.hub.specs.declared.places.Located.{Located}
 use Rattle.hub.specs.declared.records.Worked.{Worked}
-use Rattle.hub.specs.Hub.{putAt, replyOf}
+use Rattle.hub.specs.Hub.{replyOf}
 use Rattle.hub.specs.Records.{recordAt, closeRecord, workedOf}
-use Rattle.hub.proofs.Calls.{close-is}
+use Rattle.hub.proofs.Calls.{withClosed, released, close-is}
 use borrow.Author.Needs.{needs}
 use Rattle.hub.proofs.close.Statement.{statement}
 use Rattle.hub.proofs.close.Tie as tie
-
--- the place of the ticket, what was made of its record, and the runs of the closed tickets, as a reply
-abbrev reply : Hub → Located → Worked → ℕ → Reply
-reply h l w n = record { hub = record { records = putAt (l .place) (w .after) h .records; issued = h .issued; closed = n }; answer = w .answer }
 
 locate-requires : tie.Need-locate-requires
 locate-requires c κs = search needs
@@ -39,19 +34,22 @@ element-set-from-record c = search needs
 wrapping-add-u64-requires : tie.Need-wrapping-add-u64-requires
 wrapping-add-u64-requires c κs = search needs
 
+closed-fits : (c : tie.Start) → c .args .hub .closed < 2 ^ 64
+closed-fits c = search needs
+
 returns : tie.Need-returns
 unfolding sum64
 returns c =
-    let h : Hub = c .before .before .before .before .before .before .args .hub in
+    let start = c .before .before .before .before .before .before in
+    let a = start .args in
+    let h : Hub = a .hub in
     let l : Located = c .before .before .before .before .before .locate .result in
     let w : Worked = c .before .before .before .close-record .result in
-    let there : Located → Worked = λ m. workedOf (closeRecord (m .refusal) (recordAt (m .place) h)) in
-    let fits : h .closed < 2 ^ 64 = search needs in
     let more : c .wrapping-add-u64 .result ≡ sum64 (h .closed) (w .answer .runs) = c .wrapping-add-u64 .ensures in
-    ap (reply h l w) more
-    ∙ ap (λ (v : Worked). reply h l v (sum64 (h .closed) (v .answer .runs))) (c .before .before .before .close-record .ensures)
-    ∙ ap (λ (m : Located). reply h m (there m) (sum64 (h .closed) (there m .answer .runs))) (c .before .before .before .before .before .locate .ensures .0)
-    ∙ sym (ap replyOf (close-is _ h fits))
+    ap (withClosed (l .place) w h) more
+    ∙ ap (λ (v : Worked). released (l .place) v h) (c .before .before .before .close-record .ensures)
+    ∙ ap (λ (m : Located). released (m .place) (workedOf (closeRecord (m .refusal) (recordAt (m .place) h))) h) (c .before .before .before .before .before .locate .ensures .0)
+    ∙ sym (ap replyOf (close-is (a .ticket) h (closed-fits start)))
 
 pub close-spec : {M : Type 1} → statement M
 close-spec =

@@ -23,6 +23,9 @@ opening-requires c κs = search needs
 rounds-requires : tie.Need-rounds-requires
 rounds-requires c κs = search needs
 
+check-requires : tie.Need-check-requires
+check-requires c κs = search needs
+
 rounds-requires-2 : tie.Need-rounds-requires-2
 rounds-requires-2 c κs = search needs
 
@@ -31,16 +34,15 @@ ending-requires c κs = search needs
 
 same-length : tie.Need-same-length
 same-length c =
-    wrote-length (c .before .before .ending .ensures .text) ∙ wrote-length (c .before .before .before .before .before .before .before .rounds2 .ensures .text) ∙ wrote-length (c .before .before .before .before .before .before .before .before .before .before .before .before .rounds .ensures .text) ∙ wrote-length (c .before .before .before .before .before .before .before .before .before .before .before .before .before .before .before .before .before .opening .ensures .text)
-    ∙ wrote-length (c .before .before .before .before .before .before .before .before .before .before .before .before .before .before .before .before .before .before .before .before .before .before .put-bytes .ensures)
+    wrote-length (c .before .before .ending .ensures .text) ∙ wrote-length (c .before .before .before .before .before .before .before .rounds2 .ensures .text) ∙ wrote-length (c .before .before .before .before .before .before .before .before .before .before .before .before .check .ensures .text)
+    ∙ wrote-length (c .before .before .before .before .before .before .before .before .before .before .before .before .before .before .before .before .before .rounds .ensures .text) ∙ wrote-length (c .before .before .before .before .before .before .before .before .before .before .before .before .before .before .before .before .before .before .before .before .before .before .opening .ensures .text) ∙ wrote-length (c .before .before .before .before .before .before .before .before .before .before .before .before .before .before .before .before .before .before .before .before .before .before .before .before .before .before .before .put-bytes .ensures)
 
 returns : tie.Need-returns
 unfolding listText allCalls
 returns c =
-    wrote-more (c .before .before .before .before .before .before .before .before .before .before .before .before .before .before .before .before .before .before .before .before .before .before .put-bytes .ensures)
-    (lists-more
-    (lists-more (lists-more (rw (c .before .before .before .before .before .before .before .before .before .before .before .before .before .before .before .before .before .before .before .empty .ensures) at (c .before .before .before .before .before .before .before .before .before .before .before .before .before .before .before .before .before .opening .ensures)) (c .before .before .before .before .before .before .before .before .before .before .before .before .rounds .ensures)) (c .before .before .before .before .before .before .before .rounds2 .ensures))
-    (c .before .before .ending .ensures) .text)
+    let opened = rw (c .before .before .before .before .before .before .before .before .before .before .before .before .before .before .before .before .before .before .before .before .before .before .before .before .empty .ensures) at (c .before .before .before .before .before .before .before .before .before .before .before .before .before .before .before .before .before .before .before .before .before .before .opening .ensures) in
+    wrote-more (c .before .before .before .before .before .before .before .before .before .before .before .before .before .before .before .before .before .before .before .before .before .before .before .before .before .before .before .put-bytes .ensures)
+    (lists-more (lists-more (lists-more (lists-more opened (c .before .before .before .before .before .before .before .before .before .before .before .before .before .before .before .before .before .rounds .ensures)) (c .before .before .before .before .before .before .before .before .before .before .before .before .check .ensures)) (c .before .before .before .before .before .before .before .rounds2 .ensures)) (c .before .before .ending .ensures) .text)
 
 pub list-spec : {M : Type 1} → statement M
 list-spec =
@@ -51,6 +53,7 @@ list-spec =
     empty-requires
     opening-requires
     rounds-requires
+    check-requires
     rounds-requires-2
     ending-requires
     same-length

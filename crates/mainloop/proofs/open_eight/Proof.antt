@@ -15,7 +15,7 @@ use Rattle.mainloop.proofs.open_eight.Tie as tie
 
 abbrev Inv-loop : tie.InvT-loop
 Inv-loop mode key text₀ at current₀ i₀ text current i =
-    (length text ≡ length text₀) × Left (replicate 8 (Open mode key 0)) (current₀ .hub) text₀ at (replicate (8 - i) (Open mode key 0)) text current
+    (length text ≡ length text₀) × Left (replicate 8 (Open mode key 16)) (current₀ .hub) text₀ at (replicate (8 - i) (Open mode key 16)) text current
 
 abbrev μ-loop : tie.MeasureT-loop
 μ-loop mode key text₀ at current₀ i₀ text current i = 8 - i

@@ -3,7 +3,7 @@ use crate::NAMES;
 use reference::machine::{MOST_FED, TAG_LENGTHS};
 use reference::numbers::Numbers;
 use reference::script::field;
-use reference::{mac, Mode, MODES};
+use reference::{mac, Mode, MAC, MODES};
 
 /// What the writer of a script remembers of a ticket. It only guides what is written next; what is right, the reference says.
 struct Ticket {
@@ -19,6 +19,8 @@ struct Ticket {
 struct Day<'a> {
     numbers: &'a mut Numbers,
     text: Vec<u8>,
+    /// How many lines of values it has.
+    lines: usize,
     tickets: Vec<Ticket>,
     /// One argument in so many is meant to be wrong.
     wrong: usize,
@@ -28,7 +30,7 @@ struct Day<'a> {
     weights: [usize; 6],
 }
 
-/// A script of so many lines of values.
+/// A script of so many lines of values, or a few more where a check brings others.
 pub fn day(numbers: &mut Numbers, lines: usize) -> Vec<u8> {
     let mut day = Day::begin(numbers);
     day.calls(lines);
@@ -45,7 +47,7 @@ pub fn day_at_a_limit(numbers: &mut Numbers, mode: &Mode, drawing: bool) -> Vec<
     let limit = if drawing { mode.most_drawn } else { MOST_FED };
     // Few other tickets, and few calls that would end it.
     day.weights = if drawing {
-        [1, 10, 60, 10, 1, 5]
+        [1, 10, 60, 1, 1, 5]
     } else {
         [1, 60, 1, 1, 1, 5]
     };
@@ -103,16 +105,18 @@ impl Day<'_> {
     fn begin(numbers: &mut Numbers) -> Day<'_> {
         Day {
             text: NAMES.to_vec(),
+            lines: 0,
             tickets: Vec::new(),
             wrong: numbers.pick(&[3, 10, 30, 100_000]),
             feed: numbers.pick(&[4, 40, 40, 200, 1_024]),
-            weights: [20, 40, 20, 15, 10, 5].map(|w| w * numbers.pick(&[1, 1, 2, 4]) / 2),
+            weights: [25, 40, 20, 12, 5, 5].map(|w| w * numbers.pick(&[1, 1, 2, 4]) / 2),
             numbers,
         }
     }
 
-    fn calls(&mut self, times: usize) {
-        for _ in 0..times {
+    fn calls(&mut self, lines: usize) {
+        let end = self.lines + lines;
+        while self.lines < end {
             self.call();
         }
     }
@@ -128,6 +132,7 @@ impl Day<'_> {
     fn line(&mut self, name: &str, number: usize, field: &str) {
         self.text
             .extend(format!("{name} {number} {field}\n").bytes());
+        self.lines += 1;
     }
 
     fn line_of_bytes(&mut self, name: &str, number: usize, bytes: &[u8]) {
@@ -139,6 +144,10 @@ impl Day<'_> {
     }
 
     fn call(&mut self) {
+        // Where nothing is open, every call on a ticket is refused, so that most calls are opens.
+        if self.tickets.iter().all(|t| !t.open) && !self.numbers.one_in(4) {
+            return self.open();
+        }
         let mut which = self.numbers.below(self.weights.iter().sum());
         let mut call = 0;
         while which >= self.weights[call] {
@@ -151,12 +160,17 @@ impl Day<'_> {
             2 => self.draw(),
             3 => self.check(),
             4 => self.close(),
-            _ => self.line("sum", 0, "-"),
+            _ => self.sum(),
         }
     }
 
     fn open(&mut self) {
-        let mut mode = *self.numbers.pick(&MODES);
+        // More MACs than others, since a check closes them.
+        let mut mode = if self.numbers.one_in(2) {
+            MAC
+        } else {
+            *self.numbers.pick(&MODES)
+        };
         if mode.number == 2 {
             let any = self.numbers.between(8, 16);
             mode = Mode::mac(self.numbers.pick(&[8, 16, any, any]));
@@ -275,7 +289,36 @@ impl Day<'_> {
     }
 
     fn check(&mut self) {
-        let number = self.ticket(|t| t.mode.number == 2 && t.fed.len() < 20_000);
+        // As a rule of a ticket that was fed or drawn from, since after a check it cannot be any more.
+        let fresh = self.numbers.one_in(4);
+        let number = self.ticket(|t| {
+            let used = !t.fed.is_empty() || !t.feeding;
+            t.mode.number == 2 && t.fed.len() < 20_000 && (fresh || used)
+        });
+        let tag = self.tag(number);
+        let open = self.known(number).is_some();
+        // So that what the check adds to the sum is seen alone.
+        let between_sums = open && self.numbers.one_in(5);
+        if between_sums {
+            self.sum();
+        }
+        self.check_by(number, &tag);
+        if between_sums {
+            self.sum();
+        }
+        // A verdict has closed the ticket, so that all of these are refused with 12; a refusal has closed nothing.
+        while open && self.numbers.one_in(2) {
+            match self.numbers.below(4) {
+                0 => self.feed_to(number, 1),
+                1 => self.draw_from(number, 1),
+                2 => self.check_by(number, &tag),
+                _ => self.close_by(number),
+            }
+        }
+    }
+
+    /// A tag for a ticket, right or wrong.
+    fn tag(&mut self, number: usize) -> Vec<u8> {
         let (kind, other) = (self.numbers.below(8), self.numbers.between(8, 16));
         let mut tag = match self.known(number) {
             Some(ticket) if ticket.mode.number == 2 => ticket.tag(kind, other),
@@ -288,19 +331,32 @@ impl Day<'_> {
         if self.is_wrong() {
             tag.resize(self.numbers.pick(&[0, 1, 7, 17, 32, 1_024]), 0);
         }
-        self.line_of_bytes("check", number, &tag);
+        tag
+    }
+
+    fn check_by(&mut self, number: usize, tag: &[u8]) {
+        self.line_of_bytes("check", number, tag);
         if let Some(ticket) = self.known(number) {
             if ticket.mode.number == 2 && tag.len() == ticket.mode.tag_length() {
-                ticket.feeding = false;
+                ticket.open = false;
             }
         }
     }
 
+    /// As a rule a ticket that no check closes.
     fn close(&mut self) {
-        let number = self.ticket(|_| true);
+        let number = self.ticket(|t| t.mode.number != 2);
+        self.close_by(number);
+    }
+
+    fn close_by(&mut self, number: usize) {
         self.line("close", number, "-");
         if let Some(ticket) = self.known(number) {
             ticket.open = false;
         }
+    }
+
+    fn sum(&mut self) {
+        self.line("sum", 0, "-");
     }
 }

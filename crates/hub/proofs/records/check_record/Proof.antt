@@ -8,9 +8,8 @@ use Rattle.mode.specs.declared.Mode.{Mode}
 use Rattle.mode.specs.Mode.{row, numberOf}
 use Rattle.sponge.specs.declared.record.Record.{Record}
 use Rattle.sponge.specs.Record.{tagMatches}
-use Rattle.calls.specs.declared.Answer.{Answer}
 use Rattle.calls.specs.Answer.{judged}
-use Rattle.hub.specs.Records.{workedOf}
+use Rattle.hub.specs.Records.{workedOf, vacating}
 use Rattle.hub.proofs.RecordCalls.{check-found, check-18, check-4, check-done}
 use borrow.Author.Needs.{needs}
 use Rattle.hub.proofs.records.check_record.Statement.{statement}
@@ -71,15 +70,20 @@ runs-requires c κs = search needs
 judged-requires : tie.Need-judged-requires
 judged-requires c κs = search needs
 
+closed-requires : tie.Need-closed-requires
+closed-requires c κs = search needs
+
 returns-4 : tie.Need-returns-4
 returns-4 c =
-    let right = ap not (eq-eqb _ _ (sym (c .before .before .before .before .if3 .left) ∙ tag-length (c .before .before .before .before .before))) in
-    let e = c .before .before .before .finish .ensures in
-    let verdict = c .before .before .tag-matches .ensures ∙ ap (tagMatches _) e in
-    let told : c .judged .result ≡ judged (c .before .before .tag-matches .result) (c .before .runs .result) = c .judged .ensures in
-    ap₂ (λ (r : Record) (a : Answer). record { after = r; answer = a }) e (told ∙ ap₂ judged verdict (c .before .runs .ensures ∙ ap (λ (r : Record). r .runs) e))
-    ∙ ap workedOf (sym (check-done _ _ _ (c .before .before .before .before .before .before .before .before .before .if1 .left)
-    (is-mac (c .before .before .before .before .before .before)) right))
+    let j = c .before in
+    let right = ap not (eq-eqb _ _ (sym (j .before .before .before .before .if3 .left) ∙ tag-length (j .before .before .before .before .before))) in
+    let e = j .before .before .before .finish .ensures in
+    let verdict = j .before .before .tag-matches .ensures ∙ ap (tagMatches _) e in
+    let told : j .judged .result ≡ judged (j .before .before .tag-matches .result) (j .before .runs .result) = j .judged .ensures in
+    c .closed .ensures
+    ∙ ap vacating (told ∙ ap₂ judged verdict (j .before .runs .ensures ∙ ap (λ (r : Record). r .runs) e))
+    ∙ ap workedOf (sym (check-done _ _ _ (j .before .before .before .before .before .before .before .before .before .if1 .left)
+    (is-mac (j .before .before .before .before .before .before)) right))
 
 pub check-record-spec : {M : Type 1} → statement M
 check-record-spec =
@@ -98,4 +102,5 @@ check-record-spec =
     tag-matches-requires
     runs-requires
     judged-requires
+    closed-requires
     returns-4)

@@ -1,10 +1,8 @@
 -- `hub::records::close_record` meets its contract.
 -- Assumes nothing.
-use mathlib.Core.Path.{sym, ap, ap₂, _∙_}
-use Rattle.sponge.specs.declared.record.Record.{Record}
-use Rattle.calls.specs.declared.Answer.{Answer}
+use mathlib.Core.Path.{sym, ap, _∙_}
 use Rattle.calls.specs.Answer.{counted}
-use Rattle.hub.specs.Records.{workedOf}
+use Rattle.hub.specs.Records.{workedOf, vacating}
 use Rattle.hub.proofs.RecordCalls.{close-found, close-done}
 use borrow.Author.Needs.{needs}
 use Rattle.hub.proofs.records.close_record.Statement.{statement}
@@ -16,22 +14,22 @@ refused-requires c κs = search needs
 returns : tie.Need-returns
 returns c = c .refused .ensures ∙ ap workedOf (sym (close-found _ _ (c .before .if1 .taken)))
 
-vacant-requires : tie.Need-vacant-requires
-vacant-requires c κs = search needs
-
 runs-requires : tie.Need-runs-requires
 runs-requires c κs = search needs
 
 counted-requires : tie.Need-counted-requires
 counted-requires c κs = search needs
 
+closed-requires : tie.Need-closed-requires
+closed-requires c κs = search needs
+
 returns-2 : tie.Need-returns-2
 returns-2 c =
-    ap₂ (λ (r : Record) (a : Answer). record { after = r; answer = a }) (c .before .before .vacant .ensures)
-    (c .counted .ensures ∙ ap counted (c .before .runs .ensures))
+    c .closed .ensures
+    ∙ ap vacating (c .before .counted .ensures ∙ ap counted (c .before .before .runs .ensures))
     ∙ ap workedOf (sym (close-done _ _ (c .before .before .before .if1 .left)))
 
 pub close-record-spec : {M : Type 1} → statement M
 close-record-spec =
     tie.close
-    (tie.spec refused-requires returns vacant-requires runs-requires counted-requires returns-2)
+    (tie.spec refused-requires returns runs-requires counted-requires closed-requires returns-2)
