@@ -31,7 +31,7 @@ use Rattle.calls.proofs.Sound.{put-here, put-other, withNew, new-here, 
 
 -- ---- a call on a ticket
 
--- the buffer that it lends, its checks after 11 and 12, and of an entry that passes them: what becomes of it, the answer and the buffer
+-- the buffer that it lends, its checks after 11 and 12, and of an entry that passes them: what becomes of it, closed or open, the answer and the buffer
 pub record Act : Type 0 where
   pub lent : List ℕ
   pub further : Standing → List OneCheck

@@ -129,7 +129,7 @@ checking =
     ∷ (Check 1 [], refused 4) ∷ (Check 1 (zeros 8), refused 4) ∷ (Check 1 (zeros 15), refused 4) ∷ (Check 1 (zeros 17), refused 4)
     ∷ (Check 7 [], refused 4) ∷ (Check 7 (zeros 7), refused 4) ∷ (Check 7 (zeros 9), refused 4) ∷ (Check 7 (zeros 16), refused 4)
     -- a refused check closes nothing and ends no feeding, and the sum stays; 32 bytes fed are a block
-    ∷ (Sum, summed 7) ∷ (Feed 1 (zeros 31), counted 1) ∷ (Feed 1 (zeros 1), counted 2) ∷ (Feed 7 (zeros 32), counted 2) ∷ (Check 1 (zeros 7), refused 4)
+    ∷ (Feed 2 [], counted 1) ∷ (Feed 3 [], counted 1) ∷ (Feed 4 [], counted 1) ∷ (Feed 5 [], counted 1) ∷ (Feed 6 [], counted 1) ∷ (Sum, summed 7) ∷ (Feed 1 (zeros 31), counted 1) ∷ (Feed 1 (zeros 1), counted 2) ∷ (Feed 7 (zeros 32), counted 2) ∷ (Check 1 (zeros 7), refused 4)
     ∷ (Sum, summed 9)
     -- an accepted check makes the run that ends feeding, and its count and the sum have that run
     ∷ (Check 1 (zeros 16), judged (verdict 16 32 (zeros 16)) 3) ∷ (Sum, summed 10)

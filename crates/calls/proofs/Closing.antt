@@ -63,8 +63,9 @@ module _ (m : Machine) (t : ℕ) (e : Entry) (o : OpenTicket m t e) where
   is-t : e .number ≡ t
   is-t = named-is number t (m .entries) e [] (o .only)
 
+  -- one after the other they leave what a check leaves
   both : machine (Close t) (machine (Draw t [] 0 0) m .after) ≡ step (put t (afterCheck e) m) (counted (runsOf (afterCheck e))) []
-  unfolding afterDraw afterCheck
+  unfolding afterDraw afterClose afterCheck
   both =
       ap (machine (Close t)) (drawn-none m t e (o .only) (o .open-now) (o .good))
       ∙ closed-now (put t ended m) t ended (put-here t m e ended (o .only) is-t) (o .open-now)
@@ -75,7 +76,7 @@ module _ (m : Machine) (t : ℕ) (e : Entry) (o : OpenTicket m t e) where
 
 -- ---- a closed ticket stays closed
 
--- every call on its entry is refused
+-- every call on its entry is refused with 12
 refuses-all : (c : Call) (e : Entry) → e .isOpen ≡ false → onEntry (actOf c) e ≡ refuse e (actOf c .lent) 12
 unfolding ticketChecks
 refuses-all c e shut = is-closed (refuse e (actOf c .lent)) (standingFor e) (actOf c .further (standingFor e)) _ refl shut

@@ -12,6 +12,7 @@ pub mod Sums
 pub mod Law
 pub mod Apart
 pub mod Refusals
+pub mod Unchanged
 pub mod Verdict
 pub mod Closing
 pub mod Judging

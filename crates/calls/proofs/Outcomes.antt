@@ -51,6 +51,11 @@ at-ticket P t buffer m s rest done never closed others = go (s .once t)
     go (missing q) = rw (never-issued (refuse m buffer) (standingOf t m) (rest (standingOf t m)) (done (entryOf t m)) (standing-none t m q)) never
     go (entered e q g) = rw (standing-is t m e q, entry-is t m e q) (open-or-not e q g (e .isOpen) refl)
 
+-- what an accepted check does with the entry of its ticket
+abbrev pub judges : ℕ → List ℕ → Machine → Entry → Step Machine
+judges t tag m e =
+    step (put t (afterCheck e) m) (judged (same tag (outputOf (afterCheck e) (row (e .mode) .mostDrawn))) (runsOf (afterCheck e))) []
+
 -- each way out of a call, with what the checks have shown
 pub data Outcome (m : Machine) : Call → Step Machine → Type 0 where
   refuses : (c : Call) (buffer : List ℕ) (n : ℕ) → n ≢ 0 → Outcome m c (refuse m buffer n)
@@ -64,18 +69,15 @@ pub data Outcome (m : Machine) : Call → Step Machine → Type 0 where
       → e .drawn + count ≤ row (e .mode) .mostDrawn
       → Outcome m (Draw t buffer place count)
       (step (put t (afterDraw count e) m) (counted (runsOf (afterDraw count e))) (written buffer place (drop (e .drawn) (outputOf e (e .drawn + count)))))
-  checks : (t : ℕ) (tag : List ℕ) (e : Entry) → OpenTicket m t e
-      → Outcome m (Check t tag)
-      (step (put t (afterCheck e) m) (judged (same tag (outputOf (afterCheck e) (row (e .mode) .mostDrawn))) (runsOf (afterCheck e))) [])
+  checks : (t : ℕ) (tag : List ℕ) (e : Entry) → OpenTicket m t e → Outcome m (Check t tag) (judges t tag m e)
   closes : (t : ℕ) (e : Entry) → OpenTicket m t e → Outcome m (Close t) (step (put t (afterClose e) m) (counted (runsOf (afterClose e))) [])
   sums : Outcome m Sum (sumMachine m)
 
--- an accepted check: the entry of its ticket, and what is done with it
+-- an accepted check, and the entry of its ticket
 pub record AcceptedCheck (m : Machine) (t : ℕ) (tag : List ℕ) (s : Step Machine) : Type 0 where
   pub entry : Entry
   pub ticket : OpenTicket m t entry
-  pub done : s
-      ≡ step (put t (afterCheck entry) m) (judged (same tag (outputOf (afterCheck entry) (row (entry .mode) .mostDrawn))) (runsOf (afterCheck entry))) []
+  pub done : s ≡ judges t tag m entry
 
 -- ---- the calls
 
@@ -114,10 +116,7 @@ outcome (Draw t buffer place count) m s =
     (λ x. (λ z. omega arith, (λ z. omega arith, tt)))
     (λ e o pass. draws t buffer place count e o (ltb-false _ _ (pass .0)) (ltb-false _ _ (pass .1 .0)))
 outcome (Check t tag) m s =
-    ticket-outcome (Check t tag) t [] m s
-    (λ x. checkOwn x tag)
-    (λ e. step (put t (afterCheck e) m) (judged (same tag (outputOf (afterCheck e) (row (e .mode) .mostDrawn))) (runsOf (afterCheck e))) [])
-    (λ x. (λ z. omega arith, (λ z. omega arith, tt)))
+    ticket-outcome (Check t tag) t [] m s (λ x. checkOwn x tag) (judges t tag m) (λ x. (λ z. omega arith, (λ z. omega arith, tt)))
     (λ e o pass. checks t tag e o)
 outcome (Close t) m s =
     ticket-outcome (Close t) t [] m s (λ x. []) (λ e. step (put t (afterClose e) m) (counted (runsOf (afterClose e))) []) (λ x. tt) (λ e o pass. closes t e o)
@@ -128,10 +127,8 @@ pub accepted-check : (t : ℕ) (tag : List ℕ) (m : Machine) → Sound m → ac
     → AcceptedCheck m t tag (machine (Check t tag) m)
 unfolding machine checkMachine checkChecks checkOwn ticketChecks afterDraw afterClose afterCheck
 accepted-check t tag m s =
-    at-ticket P t [] m s (λ x. checkOwn x tag)
-    (λ e. step (put t (afterCheck e) m) (judged (same tag (outputOf (afterCheck e) (row (e .mode) .mostDrawn))) (runsOf (afterCheck e))) [])
-    (λ ok. absurd (false≢true ok)) (λ ok. absurd (false≢true ok))
-    (λ e o. checked-nonzero P (checkOwn (standingFor e) tag) (refuse m []) _ (λ z. omega arith, (λ z. omega arith, tt))
+    at-ticket P t [] m s (λ x. checkOwn x tag) (judges t tag m) (λ ok. absurd (false≢true ok)) (λ ok. absurd (false≢true ok))
+    (λ e o. checked-nonzero P (checkOwn (standingFor e) tag) (refuse m []) (judges t tag m e) (λ z. omega arith, (λ z. omega arith, tt))
     (λ n z ok. absurd (false≢true (sym (ne-eqb n 0 z) ∙ ok))) (λ pass ok. record { entry = e; ticket = o; done = refl }))
   where
     P : Step Machine → Type 0

@@ -14,7 +14,7 @@ use Rattle.sponge.specs.Sponge.{ceiling, initial, start, pad, cut, blocks, flip
 use Rattle.calls.specs.Answer.{refused, counted}
 use Rattle.checks.specs.Buffers.{written}
 use Rattle.calls.specs.Checks.{openChecks, ticketChecks, feedOwn, feedChecks, drawOwn, drawChecks, checkOwn, checkChecks}
-use Rattle.calls.specs.Call.{Call, Open, Feed, Draw, Check, Close, Sum, Event, events}
+use Rattle.calls.specs.Call.{Call, Open, Feed, Draw, Check, Close, Sum, Event, events, final}
 use Rattle.calls.specs.Keyed.{find, total}
 use Rattle.calls.specs.Lists.{unissued, issuedBy, issueOf, bytesFed, bytesDrawn, feedingLasts, lastRuns, runCount, tickets, afterIssue, naming, callsOf}
 use Rattle.calls.specs.Machine.{emptyMachine, formula, runsOf, outputOf, newEntry, afterFeed, afterDraw, afterClose, afterCheck, placeOf, entryOf, standingOf, put}
@@ -49,9 +49,9 @@ pub ticket-read :
     × (bytesFed 1 list ≡ 1 ∷ 2 ∷ 3 ∷ 4 ∷ 5 ∷ 6 ∷ 7 ∷ 8 ∷ 9 ∷ []) × (bytesFed 2 list ≡ []) × (bytesFed 3 list ≡ [])
     × (feedingLasts 1 list ≡ true) × (feedingLasts 2 list ≡ false) × (feedingLasts 3 list ≡ false)
     × (runCount 1 list ≡ 2) × (runCount 2 list ≡ 2) × (runCount 3 list ≡ 2) × (runCount 4 list ≡ 0)
-    × (bytesDrawn 1 list ≡ []) × (bytesDrawn 2 list ≡ 0xeb ∷ 0x1a ∷ 0xf6 ∷ [])
+    × (bytesDrawn 1 list ≡ []) × (bytesDrawn 2 list ≡ 0xeb ∷ 0x1a ∷ 0xf6 ∷ []) × (bytesDrawn 3 list ≡ [])
 unfolding issueOf bytesFed bytesDrawn feedingLasts lastRuns runCount events machine emptyMachine openMachine openChecks named admit newEntry runsOf formula runsFeeding runsEnded ceiling start openCount total feedMachine drawMachine checkMachine closeMachine ticketChecks feedChecks feedOwn drawChecks drawOwn checkChecks checkOwn standingOf entryOf placeOf find afterFeed afterDraw afterClose afterCheck put sumMachine written outputOf oneShot output squeezeBytes squeezeBlocks absorbMessage absorbBlocks flipIf blocks cut pad initial fromBytes toBytes wordsOf zerosTo xorFrom xorAt xorWord bytesFrom byteAt weight permute round diffuse substitute atEveryPlace sbox addConstant mix rotr column number word bit
-ticket-read = (refl, refl, refl, refl, refl, refl, refl, refl, refl, refl, refl, refl, refl, refl, refl, refl, refl)
+ticket-read = (refl, refl, refl, refl, refl, refl, refl, refl, refl, refl, refl, refl, refl, refl, refl, refl, refl, refl)
 
 -- the calls that name a ticket once it is issued, refused ones included: ticket 3 is closed by its check
 pub named-read : (callsOf (naming 1 (afterIssue 1 list))
@@ -61,3 +61,9 @@ pub named-read : (callsOf (naming 1 (afterIssue 1 list))
     × (map (λ (e : Event). e .response .answer .refusal) (naming 3 (afterIssue 3 list)) ≡ 4 ∷ 0 ∷ 12 ∷ 12 ∷ 12 ∷ [])
 unfolding naming afterIssue callsOf events machine emptyMachine openMachine openChecks named admit newEntry runsOf formula runsFeeding runsEnded ceiling start openCount total feedMachine drawMachine checkMachine closeMachine ticketChecks feedChecks feedOwn drawChecks drawOwn checkChecks checkOwn standingOf entryOf placeOf find afterFeed afterDraw afterClose afterCheck put sumMachine
 named-read = (refl, refl, refl, refl)
+
+-- what the plain machine holds of a ticket after an accepted check: the entry is closed, feeding has ended, and nothing more is drawn
+pub closed-read : final machine emptyMachine (Open 2 key 8 ∷ Feed 1 (5 ∷ []) ∷ Draw 1 (7 ∷ 7 ∷ 7 ∷ []) 0 3 ∷ Check 1 guess ∷ []) .entries
+    ≡ record { number = 1; isOpen = false; mode = Mac 8; key = key; fed = 5 ∷ []; feeding = false; drawn = 3 } ∷ []
+unfolding final machine emptyMachine openMachine openChecks named admit newEntry runsOf formula runsFeeding runsEnded ceiling start openCount total feedMachine drawMachine checkMachine ticketChecks feedChecks feedOwn drawChecks drawOwn checkChecks checkOwn standingOf entryOf placeOf find afterFeed afterDraw afterClose afterCheck put
+closed-read = refl

@@ -1,5 +1,5 @@
--- Document 01's third demand, what request K2 says of tag lengths and verdicts, and what request K4 says of a check, as statements about anything that answers
--- calls: S is a hub, or another machine, `run` what a call makes of it and `empty` what a list begins with.
+-- Document 01's third demand, that a refused call changes nothing, what request K2 says of tag lengths and verdicts, and what request K4 says of a check, as
+-- statements about anything that answers calls: S is a hub, or another machine, `run` what a call makes of it and `empty` what a list begins with.
 -- Assumes nothing.
 use mathlib.Core.Bool.{true, false}
 use mathlib.Core.Path.{_≡_}
@@ -62,6 +62,10 @@ module _ {S : Type 0} (run : Call → S → Step S) (empty : S) where
       → callsOf (exchanges t calls) ≡ callsOf (exchanges t others)
       → exchanges t calls ≡ exchanges t others
 
+  -- A refused call changes nothing, whatever it is made on.
+  abbrev pub RefusedKeeps : Type 0
+  RefusedKeeps = (c : Call) (s : S) → accepted (run c s .response .answer) ≡ false → run c s .after ≡ s
+
   -- ---- request K2's tag lengths
 
   -- A tag length counts in mode 2 alone. Two opens in another mode that differ in it alone are alike: in what they leave and in what they get.
@@ -88,7 +92,7 @@ module _ {S : Type 0} (run : Call → S → Step S) (empty : S) where
   abbrev pub checkAfter : List Call → ℕ → List ℕ → Step S
   checkAfter calls t tag = run (Check t tag) (final run empty calls)
 
-  -- a close after the list, where feeding has ended by a draw of no bytes
+  -- a draw of no bytes after the list, which ends feeding, and then a close
   abbrev pub closeAfter : List Call → ℕ → Step S
   closeAfter calls t = run (Close t) (run (Draw t [] 0 0) (final run empty calls) .after)
 

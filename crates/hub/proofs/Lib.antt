@@ -8,3 +8,4 @@ pub mod Tickets
 pub mod Represents
 pub mod Agree
 pub mod Law
+pub mod Examples

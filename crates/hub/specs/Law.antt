@@ -1,5 +1,5 @@
--- The law over lists of calls, and that tickets stand apart: document 01's third demand, for the hub; what request K2 says of tag lengths and verdicts, and request
--- K4 of a check. These statements are those of `calls`, specs/Law.antt, over the definitions that the calls promise. The last one is about places, which no answer
+-- The law over lists of calls, that tickets stand apart, document 01's third demand, and that a refused call changes nothing, for the hub; what request K2 says of tag
+-- lengths and verdicts, and request K4 of a check. These statements are those of `calls`, specs/Law.antt, over the definitions that the calls promise. The last one is about places, which no answer
 -- shows. proofs/Law.antt proves them.
 -- Assumes nothing.
 use mathlib.Core.List.{List}
@@ -8,7 +8,7 @@ use Prim.Native.Nat.{ℕ, _<_}
 use Rattle.sponge.specs.Record.{vacant}
 use Rattle.calls.specs.Call.{Call, final}
 use Rattle.calls.specs.Checks.{mostOpen}
-use Rattle.calls.specs.Law.{Law, Numbered, Apart, LengthIgnored, Verdicts, CheckCloses}
+use Rattle.calls.specs.Law.{Law, Numbered, Apart, RefusedKeeps, LengthIgnored, Verdicts, CheckCloses}
 use Rattle.hub.specs.Hub.{emptyHub, onHub}
 use Rattle.hub.specs.Records.{recordAt}
 
@@ -24,6 +24,10 @@ HubNumbered = (calls : List Call) → Numbered onHub emptyHub calls
 abbrev pub HubApart : Type 0
 HubApart = Apart onHub emptyHub
 
+-- a refused call returns the hub as it was, whatever hub that is
+abbrev pub HubRefusedKeeps : Type 0
+HubRefusedKeeps = RefusedKeeps onHub emptyHub
+
 -- request K2: a tag length counts in mode 2 alone, whatever the hub
 abbrev pub HubLengthIgnored : Type 0
 HubLengthIgnored = LengthIgnored onHub emptyHub
@@ -36,7 +40,7 @@ HubVerdicts = Verdicts onHub emptyHub
 abbrev pub HubCheckCloses : Type 0
 HubCheckCloses = CheckCloses onHub emptyHub
 
--- A closed ticket leaves nothing in the hub: after every list, a place that no ticket has holds what all places of the empty hub hold.
+-- A closed ticket leaves nothing of its state in the hub: after every list, a place that no ticket has holds what all places of the empty hub hold.
 abbrev pub HubForgets : Type 0
 HubForgets =
     (calls : List Call) (p : ℕ) → p < mostOpen → recordAt p (final onHub emptyHub calls) .ticket ≡ 0 → recordAt p (final onHub emptyHub calls) ≡ vacant

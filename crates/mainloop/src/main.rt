@@ -221,7 +221,7 @@ fn ending(before: Hub, key: &[u8], text: &mut [u8], at: usize) -> Listed
     listing::sum(after_drawn, text, drawn.next)
 }
 
-// All calls, on a hub that is lent or handed on by value: the text is the same. Between the rounds a wrong tag closes ticket 4, and those that follow feed it in vain.
+// All calls, on a hub that is lent or handed on by value: the text is the same. Between the rounds a wrong tag closes ticket 4, and later feeds to it are refused.
 fn list(in_place: bool, key: &[u8], few: &[u8], message: &[u8], text: &mut [u8], at: usize) -> usize
     ensures { λ r. ⌜ Wrote (now (text .entry)) at (spec.listText (now (key .entry)) (now (few .entry)) (now (message .entry))) (now (text .exit)) r ⌝ }
 {
