@@ -1,6 +1,6 @@
--- The law over lists of calls, that tickets stand apart, document 01's third demand, and that a refused call changes nothing, for the hub; what request K2 says of tag
--- lengths and verdicts, and request K4 of a check. These statements are those of `calls`, specs/Law.antt, over the definitions that the calls promise. The last one is about places, which no answer
--- shows. proofs/Law.antt proves them.
+-- The law over lists of calls, and that tickets stand apart: document 01's third demand, for the hub; that a refused call changes nothing; what request K2 says of
+-- tag lengths and verdicts, and request K4 of a check. These statements are those of `calls`, specs/Law.antt, over the definitions that the calls promise. The last
+-- one is about places, which no answer shows. proofs/Law.antt proves them.
 -- Assumes nothing.
 use mathlib.Core.List.{List}
 use mathlib.Core.Path.{_≡_}
