@@ -1,1 +1,2 @@
 // No code: specs/ has the steps that proofs by hand share, over a struct of plain data behind a `&mut`.
+#![tactic(auto)]

@@ -1,9 +1,11 @@
 // What a call on the hub answers. The definitions of this crate are document 01's "Tickets" and "Refused" without words of a state: the checks, the calls as
 // values, lists of them, and the plain machine.
+#![tactic(auto)]
+
 ghost use Rattle.std.specs.Prelude.{◌≡◌};
 ghost use Rattle.calls.specs.Answer as spec;
 
-#[derive(Drop)]
+#[derive(Clone, Copy)]
 pub struct Answer {
     // the refusal's number; 0: the call is accepted
     pub refusal: u32,

@@ -1,5 +1,7 @@
 // The hub of the controller's main loop: one hub that stays in its memory and is lent, call after call. `feed` and `close` take it as a `&mut Hub`. A function that
 // holds a hub and lends it is proved by hand; `feed_often` does so behind plain parameters, so that its callers need no such proof.
+#![tactic(auto)]
+
 ghost use Rattle.std.specs.Prelude.{◌≡◌, replicate};
 ghost use Rattle.calls.specs.Call.{Feed, final};
 ghost use Rattle.hub.specs.Hub.{on_hub};

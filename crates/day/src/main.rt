@@ -1,5 +1,7 @@
 // A day at the ramp, on the hub by value: sixteen lines interleaved, tags judged, tickets closed twice, and every refusal that a run can reach. It prints each call
 // with all its arguments and what the call gave. tests/ reads that list and works every answer and every byte out anew, from document 01 alone.
+#![tactic(auto)]
+
 ghost use Rattle.std.specs.Prelude.{◌≡◌, [], ◌∷◌, ◌-◌, ◌≤◌, length, replicate};
 ghost use Rattle.calls.specs.Call as call;
 ghost use Rattle.hub.specs.Hub.{empty_hub, on_hub};
@@ -13,7 +15,7 @@ use listing::Listed;
 
 // A call of the plan. Its bytes are so many of the sample from a place on: after the mode or the ticket stand the place and how many. An open also has a tag length;
 // a draw has the length of the buffer that it is lent, the place and the count.
-#[derive(Drop)]
+#[derive(Clone, Copy)]
 enum Planned {
     Open(u32, usize, usize, u32),
     Feed(u32, usize, usize),
@@ -24,7 +26,7 @@ enum Planned {
 }
 
 // A step of the plan: an empty hub, a call, turns from one number to another, or the same feed of so many equal bytes so many times.
-#[derive(Drop)]
+#[derive(Clone, Copy)]
 enum Step {
     Begin,
     Make(Planned),

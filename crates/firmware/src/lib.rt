@@ -1,5 +1,7 @@
 // What sign firmware written in C calls: the short function, sealing and judging, each on numbers and byte slices, with one number for an answer.
 // include/firmware.h declares them.
+#![tactic(auto)]
+
 ghost use Rattle.std.specs.Prelude.{◌≡◌};
 ghost use Rattle.prf_short.specs.Call.{short_answer, short_after};
 ghost use Rattle.frame.specs.Frame.{seal_answer, seal_after, verify_answer};

@@ -1,4 +1,6 @@
 // Frames: a body is sealed by its MAC, which stands in the sixteen bytes after it, and a sealed body is judged by it.
+#![tactic(auto)]
+
 ghost use Rattle.std.specs.Prelude.{◌≡◌};
 ghost use Rattle.mode.specs.declared.Mode.TheVariants.{Mac};
 ghost use Rattle.sponge.specs.Record.{fresh, absorbed, finished};
@@ -11,14 +13,14 @@ use sponge::Record;
 pub const TAG_LENGTH: usize = 16;
 
 // What sealing answers: the number of a refusal, or 0 and the runs that were made.
-#[derive(Drop)]
+#[derive(Clone, Copy)]
 pub struct Sealed {
     pub refusal: u32,
     pub runs: u64,
 }
 
 // What judging answers: the number of a refusal, or 0, the verdict and the runs that were made.
-#[derive(Drop)]
+#[derive(Clone, Copy)]
 pub struct Judged {
     pub refusal: u32,
     pub passed: bool,

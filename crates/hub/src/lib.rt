@@ -3,6 +3,7 @@
 //
 // A call on a ticket finds the place of its record, works on the record (`records`), and puts it back; a refused call puts back what it found. So there is one way
 // through a call, and no more of the hub is written than one record and, by a check or a close, the runs of the closed tickets.
+#![tactic(auto)]
 
 pub mod in_place;
 mod places;
@@ -20,7 +21,7 @@ use places::{find, locate};
 use records::{check_record, close_record, draw_record, feed_record};
 use sponge::Record;
 
-#[derive(Drop)]
+#[derive(Clone, Copy)]
 pub struct Hub {
     // the records of open tickets, and vacant ones in free places
     records: [Record; 16],
@@ -31,7 +32,7 @@ pub struct Hub {
 }
 
 // What a call gives back.
-#[derive(Drop)]
+#[derive(Clone, Copy)]
 pub struct Reply {
     pub hub: Hub,
     pub answer: Answer,

@@ -7,7 +7,7 @@ ghost use Rattle.hub.specs.Hub.{place_of};
 use super::Hub;
 
 // The place of a ticket's record. Where a check fails, its number, and place 0.
-#[derive(Drop)]
+#[derive(Clone, Copy)]
 pub struct Located {
     // 11 or 12; 0: the ticket is open
     pub refusal: u32,

@@ -9,7 +9,7 @@ use calls::Answer;
 use sponge::Record;
 
 // A record after a call, and the call's answer.
-#[derive(Drop)]
+#[derive(Clone, Copy)]
 pub struct Worked {
     pub after: Record,
     pub answer: Answer,

@@ -1,4 +1,6 @@
 // A script over the hub: one line's step, and input in chunks of any size, whose answers fill an output buffer. It reads and prints nothing itself.
+#![tactic(auto)]
+
 mod call;
 mod chunk;
 mod line;
@@ -11,7 +13,7 @@ use hub::Hub;
 pub use line::Stepped;
 
 // A script under way. Beside it stands a line buffer.
-#[derive(Drop)]
+#[derive(Clone, Copy)]
 pub struct Session {
     // the hub that its calls are made on
     pub hub: Hub,
@@ -24,7 +26,7 @@ pub struct Session {
 }
 
 // How far a chunk was taken: the session, the place of the first byte that was not taken, and how much of the output buffer is filled.
-#[derive(Drop)]
+#[derive(Clone, Copy)]
 pub struct Progress {
     pub session: Session,
     pub next: usize,

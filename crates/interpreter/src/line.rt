@@ -7,7 +7,7 @@ use crate::call::{call, write_line};
 use script::{Parsed, Word};
 
 // The session after a line, and the place after what was printed of it.
-#[derive(Drop)]
+#[derive(Clone, Copy)]
 pub struct Stepped {
     pub session: Session,
     pub size: usize,

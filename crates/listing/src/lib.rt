@@ -1,4 +1,6 @@
 // Lists of calls on a hub, as `day` and `mainloop` print them: each call is made, and its line put into a lent buffer.
+#![tactic(auto)]
+
 ghost use Rattle.std.specs.Prelude.{◌≡◌, [], ◌∷◌, ◌++◌};
 ghost use Rattle.calls.specs.Call as call;
 ghost use Rattle.hub.specs.Hub.{draw_hub};
@@ -10,7 +12,7 @@ use hub::Hub;
 use script::{put_byte, put_bytes, put_decimal, put_field};
 
 // The hub after some calls, and the place after their text.
-#[derive(Drop)]
+#[derive(Clone, Copy)]
 pub struct Listed {
     pub hub: Hub,
     pub next: usize,

@@ -1,6 +1,8 @@
 // The controller's main loop, made twice over the same calls: on a hub that is handed on by value, and on one that stays in its memory and is lent round after round.
 // Both list every call with its answer, and what the hub's tickets give at the end. By the promises the two lists are the same; tests/ works every answer and byte
 // out anew.
+#![tactic(auto)]
+
 ghost use Rattle.std.specs.Prelude.{◌≡◌, [], ◌∷◌, ◌≤◌, length, replicate};
 ghost use Rattle.calls.specs.Call.{Open, Draw};
 ghost use Rattle.script.specs.Text.{Wrote};
@@ -15,13 +17,13 @@ use listing::Listed;
 const ROUNDS: usize = 150;
 
 // What the calls of all rounds were answered, a round's feed and close one after the other.
-#[derive(Drop)]
+#[derive(Clone, Copy)]
 struct Answers {
     kept: [Answer; 300],
 }
 
 // What rounds leave.
-#[derive(Drop)]
+#[derive(Clone, Copy)]
 struct Served {
     hub: Hub,
     answers: Answers,

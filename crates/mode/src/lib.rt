@@ -1,9 +1,11 @@
 // The modes, with the table of document 01's "Four modes" and request K1's two rows as associated constants. A column of the table is a method; the MAC's start
 // word and limit are computed from the length of its tags (request K2).
+#![tactic(auto)]
+
 ghost use Rattle.std.specs.Prelude.{◌≡◌};
 ghost use Rattle.mode.specs.Mode.{number_of, named, number_named, mode_number, row};
 
-#[derive(Drop)]
+#[derive(Clone, Copy)]
 pub enum Mode {
     Prf,
     // The length of its tags, in bytes. The hub opens it with 8 to 16.
@@ -15,7 +17,7 @@ pub enum Mode {
 }
 
 // What a number names: a mode, or none.
-#[derive(Drop)]
+#[derive(Clone, Copy)]
 pub enum Named {
     Is(Mode),
     NoMode,

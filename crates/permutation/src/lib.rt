@@ -1,4 +1,6 @@
 // The Ascon permutation: a state of five 64-bit words that goes by value through twelve rounds, or through the last n of them.
+#![tactic(auto)]
+
 ghost use Rattle.std.specs.Prelude.{◌≡◌, ◌-◌, ◌<◌};
 ghost use Rattle.word.specs.Word.{rotr};
 ghost use Rattle.permutation.specs.Permutation as spec;

@@ -1,5 +1,7 @@
 // Document 01's short function, ASCON-PRFSHORT of "Ascon PRF, MAC, and Short-Input MAC" (source document 003): an output of up to sixteen bytes for a message of up to sixteen,
 // by one permutation.
+#![tactic(auto)]
+
 ghost use Rattle.std.specs.Prelude.{◌≡◌, ◌≤◌, length};
 ghost use Rattle.prf_short.specs.Short.{start_word, prf_short};
 ghost use Rattle.prf_short.specs.Call.{wrong_output, short_answer, short_after};

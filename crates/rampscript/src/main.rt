@@ -1,5 +1,7 @@
 // Reads a script from standard input and prints its answers: the loop over the interpreter, and nothing else. A read or a write that fails ends it: after a failed read all
 // answers to what was read before have been written, and after a failed write nothing more is.
+#![tactic(auto)]
+
 ghost use Rattle.std.specs.Prelude.{◌≡◌, true, ◌&&◌, eqb, pos};
 ghost use Rattle.interpreter.specs.Session.{begun, reader_of, finished};
 ghost use Rattle.rampscript.specs.Program.{more as moreTurns, Answering, Turning, Running, Ending};
@@ -9,14 +11,14 @@ use interpreter::Session;
 use libc::{STDIN_FILENO, STDOUT_FILENO};
 
 // A script after a chunk, and whether its answers were written.
-#[derive(Drop)]
+#[derive(Clone, Copy)]
 struct Answered {
     session: Session,
     wrote: bool,
 }
 
 // A script after a turn.
-#[derive(Drop)]
+#[derive(Clone, Copy)]
 struct Turn {
     session: Session,
     // how many bytes were read
@@ -28,7 +30,7 @@ struct Turn {
 }
 
 // A script that was run: its session at last, whether the names were written, and how the last turn ended.
-#[derive(Drop)]
+#[derive(Clone, Copy)]
 struct Ended {
     session: Session,
     started: bool,

@@ -7,7 +7,7 @@ use crate::number::put_decimal;
 use crate::text::{put_byte, put_bytes};
 
 // The first field of an answer.
-#[derive(Drop)]
+#[derive(Clone, Copy)]
 pub enum Word {
     Ok,
     Pass,

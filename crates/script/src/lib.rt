@@ -1,4 +1,6 @@
 // The script language of document 01's "Script program": lines are read, answers are written, and input is cut into lines. It knows no hub.
+#![tactic(auto)]
+
 mod answer;
 mod hex;
 mod input;

@@ -8,7 +8,7 @@ use crate::number::{Number, number_of};
 use crate::text::{after, before, same};
 
 // The first field, document 01's `call`.
-#[derive(Drop)]
+#[derive(Clone, Copy)]
 pub enum Verb {
     Open,
     Feed,
@@ -19,14 +19,14 @@ pub enum Verb {
 }
 
 // A field read as a verb.
-#[derive(Drop)]
+#[derive(Clone, Copy)]
 pub enum Named {
     Is(Verb),
     NoVerb,
 }
 
 // A line that was read. size is how many bytes its third field has, or a draw's count.
-#[derive(Drop)]
+#[derive(Clone, Copy)]
 pub enum Parsed {
     Call {
         verb: Verb,

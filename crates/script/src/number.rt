@@ -7,7 +7,7 @@ ghost use Rattle.script.specs.Parsed.{number_in};
 use crate::text::put_byte;
 
 // A field read as a number.
-#[derive(Drop)]
+#[derive(Clone, Copy)]
 pub enum Number {
     Value(u32),
     NoNumber,

@@ -9,7 +9,7 @@ ghost use Rattle.sponge.specs.Record as spec;
 use mode::Mode;
 
 // The wider fields first: so there is one gap, of one byte, and a record has 72.
-#[derive(Drop)]
+#[derive(Clone, Copy)]
 pub struct Record {
     // x0 to x4
     words: [u64; 5],

@@ -1,6 +1,8 @@
 // The state as bytes: bytes are xored into its five words and copied out of them, whole words at a time where that can be.
 // Every public function is total: a word past the end reads 0 and is not written. Where a slice goes from a place on, the place is a u32, so that the two
 // together never pass 2 ^ 64.
+#![tactic(auto)]
+
 ghost use Rattle.std.specs.Prelude.{◌≡◌, ◌&&◌, ◌+◌, ◌-◌, ◌/◌, ◌%◌, ◌^◌, ◌≤◌, ◌<◌, min, length, get_or, take, drop, eqb, leb};
 ghost use Rattle.std.proofs.lemmas.List.Edits.{sets};
 ghost use Rattle.word.specs.Bytes as spec;

@@ -1,5 +1,7 @@
 // The permutation, the sponge and feeds through the hub, and the runs that frames report, as C calls them: for the test bench of document 01, the benchmarks under
 // bench/ and the tests under tests/.
+#![tactic(auto)]
+
 mod feeds;
 
 ghost use Rattle.std.specs.Prelude.{◌≡◌, [], ◌∷◌, length};

@@ -1,6 +1,8 @@
 // Prints the outputs of the six modes and of the short function, and MACs with tags of all lengths, for messages of many lengths, whose bytes count up from 0.
 // The stored output, crates/vectors/stdout, is the outside vectors: known answers that were not made with this code. All of it is put into one buffer, which is
 // written once.
+#![tactic(auto)]
+
 ghost use Rattle.std.specs.Prelude.{◌≡◌, ◌≤◌, length};
 ghost use Rattle.mode.specs.Mode.{row};
 ghost use Rattle.sponge.specs.Sponge.{one_shot};

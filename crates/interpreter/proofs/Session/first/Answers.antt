@@ -1,0 +1,9 @@
+-- `interpreter::Session::first` meets its contract.
+-- Assumes nothing.
+use Rattle.interpreter.specs.Session.{begun}
+use borrow.Author.Rules.{rules}
+use Rattle.interpreter.proofs.Session.first.Goals as goal
+
+pub returns : goal.returns
+unfolding begun
+returns c = rw c.empty.ensures

@@ -1,0 +1,12 @@
+-- `listing::feed` meets its contract.
+-- Assumes nothing.
+use borrow.Author.Rules.{rules}
+use Rattle.hub.specs.Hub.{on_hub}
+use Rattle.listing.specs.Listing.{call_text}
+use Rattle.listing.proofs.Lists.{lists_call, feed-leaves}
+use Rattle.listing.proofs.feed.Goals as goal
+
+pub returns : goal.returns
+unfolding call_text on_hub
+returns c =
+    lists_call c.feed-reply.ensures (feed-leaves _ _ _) c.put_line-next.ensures

@@ -1,0 +1,13 @@
+-- `listing::put_draw` meets its contract.
+-- Assumes nothing.
+use borrow.Author.Rules.{rules}
+use Rattle.script.proofs.Texts.{wrote-more}
+use Rattle.listing.specs.Listing.{call_text}
+use Rattle.listing.proofs.put_draw.Goals as goal
+
+pub returns : goal.returns
+unfolding call_text
+returns c =
+    wrote-more (wrote-more c.put_call-after_call.ensures
+    c.put_number-after_place.ensures)
+    c.put_number.ensures

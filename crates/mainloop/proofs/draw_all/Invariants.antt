@@ -1,0 +1,19 @@
+-- `mainloop::draw_all` meets its contract.
+-- Assumes nothing.
+use mathlib.Core.Path.{◌≡◌, refl, ◌∙◌}
+use Prim.Native.Nat.{◌-◌}
+use native.Mathlib.Omega.{arith}
+use borrow.Author.Rules.{rules}
+use lib.ListN.{length}
+use Rattle.script.proofs.Texts.{wrote-length}
+use Rattle.listing.proofs.Lists.{Left, all_left, one-made, none_left}
+use Rattle.mainloop.specs.Rounds.{draws_from}
+use Rattle.mainloop.proofs.RoundList.{one-draw, no_draw}
+use Rattle.mainloop.proofs.draw_all.Given as goal
+
+abbrev pub invariant-loop-ticket : goal.invariant-loop-ticket
+invariant-loop-ticket l =
+    (length l.text ≡ length l.initial.text) × Left (draws_from 1 25) l.initial.current.hub l.initial.text l.at (draws_from l.ticket (26 - l.ticket)) l.text l.current
+
+abbrev pub decreases-loop-ticket : goal.decreases-loop-ticket
+decreases-loop-ticket l = 26 - l.ticket

@@ -1,0 +1,11 @@
+-- `mainloop::ending` meets its contract.
+-- Assumes nothing.
+use Rattle.listing.proofs.Lists.{lists_more}
+use Rattle.mainloop.specs.Rounds.{ending}
+use borrow.Author.Rules.{rules}
+use Rattle.mainloop.proofs.ending.Goals as goal
+
+pub returns : goal.returns
+unfolding ending
+returns c =
+    lists_more (lists_more c.open_eight-opened.ensures c.draw_all-drawn.ensures) c.sum.ensures

@@ -1,0 +1,19 @@
+-- `mainloop::open_eight` meets its contract.
+-- Assumes nothing.
+use mathlib.Core.Path.{◌≡◌, refl, ◌∙◌}
+use Prim.Native.Nat.{◌-◌}
+use native.Mathlib.Omega.{arith}
+use borrow.Author.Rules.{rules}
+use lib.ListN.{length, replicate}
+use Rattle.calls.specs.Call.{Open}
+use Rattle.script.proofs.Texts.{wrote-length}
+use Rattle.listing.proofs.Lists.{Left, all_left, one-made, none_left}
+use Rattle.mainloop.proofs.RoundList.{one_again, none-again}
+use Rattle.mainloop.proofs.open_eight.Given as goal
+
+abbrev pub invariant-loop-i : goal.invariant-loop-i
+invariant-loop-i l =
+    (length l.text ≡ length l.initial.text) × Left (replicate 8 (Open l.mode l.key 16)) l.initial.current.hub l.initial.text l.at (replicate (8 - l.i) (Open l.mode l.key 16)) l.text l.current
+
+abbrev pub decreases-loop-i : goal.decreases-loop-i
+decreases-loop-i l = 8 - l.i

@@ -1,0 +1,18 @@
+-- `mainloop::put_rounds` meets its contract.
+-- Assumes nothing.
+use mathlib.Core.Path.{◌≡◌, refl, ◌∙◌}
+use Prim.Native.Nat.{◌-◌}
+use native.Mathlib.Omega.{arith}
+use borrow.Author.Rules.{rules}
+use lib.ListN.{length}
+use Rattle.script.proofs.Texts.{wrote-length, TextLeft, text-begun, text-next, text-done}
+use Rattle.mainloop.specs.Kept.{rounds_text}
+use Rattle.mainloop.proofs.RoundList.{one-round, no_round}
+use Rattle.mainloop.proofs.put_rounds.Given as goal
+
+abbrev pub invariant-loop-i : goal.invariant-loop-i
+invariant-loop-i l =
+    (length l.text ≡ length l.initial.text) × TextLeft (rounds_text 0 150 l.bytes (record { l.kept = l.kept })) l.initial.text l.at (rounds_text l.i (150 - l.i) l.bytes (record { l.kept = l.kept })) l.text l.next
+
+abbrev pub decreases-loop-i : goal.decreases-loop-i
+decreases-loop-i l = 150 - l.i

@@ -1,0 +1,9 @@
+-- `script::line::is_dash` meets its contract.
+-- Assumes nothing.
+use borrow.Author.Rules.{rules}
+use Rattle.script.specs.Line.{is_dash}
+use Rattle.script.proofs.line.is_dash.Goals as goal
+
+pub returns : goal.returns
+unfolding is_dash
+returns c = c.same.ensures

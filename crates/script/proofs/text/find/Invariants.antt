@@ -1,0 +1,15 @@
+-- `script::text::find` meets its contract. The loop's invariant: the place is as many bytes further than it is in what is left.
+-- Assumes nothing.
+use mathlib.Core.Path.{◌≡◌, ap}
+use Prim.Native.Nat.{◌≤◌, ◌-◌, ◌+◌}
+use native.Mathlib.Omega.{arith}
+use lib.ListN.{length, drop}
+use Rattle.script.specs.Text.{before}
+use Rattle.script.proofs.Texts.{before_here, before-later, before-end}
+use Rattle.script.proofs.text.find.Given as goal
+
+abbrev pub invariant-loop-i : goal.invariant-loop-i
+invariant-loop-i l = (l.i ≤ length l.s) × (length (before l.b l.s) ≡ l.i + length (before l.b (drop l.i l.s)))
+
+abbrev pub decreases-loop-i : goal.decreases-loop-i
+decreases-loop-i l = length l.s - l.i

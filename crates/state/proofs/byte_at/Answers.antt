@@ -1,0 +1,9 @@
+-- `state::byte_at` meets its contract.
+-- Assumes nothing.
+use Rattle.word.specs.Bytes.{weight, byte_at}
+use borrow.Author.Rules.{rules}
+use Rattle.state.proofs.byte_at.Goals as goal
+
+pub returns : goal.returns
+unfolding byte_at weight
+returns c = rw c.word_of-w.ensures

@@ -1,0 +1,10 @@
+-- `state::whole_word` meets its contract.
+-- Assumes nothing.
+use borrow.Author.Tests.{eq-eqb, ne_eqb}
+use Rattle.state.proofs.whole_word.Goals as goal
+
+pub returns-then-k-eq0 : goal.returns-then-k-eq0
+returns-then-k-eq0 c = rw (eq-eqb _ 0 c.if-k-eq0.true)
+
+pub returns : goal.returns
+returns c = rw (ne_eqb _ 0 c.if-k-eq0.false)

@@ -1,0 +1,20 @@
+-- `testbench::feeds::sixteen` meets its contract.
+-- Assumes nothing.
+use mathlib.Core.Path.{◌≡◌, ap, ◌∙◌}
+use Prim.Native.Nat.{◌-◌, ◌≤◌}
+use native.Mathlib.Omega.{arith}
+use borrow.Author.Rules.{rules}
+use lib.ListN.{replicate}
+use Rattle.calls.specs.Call.{Open, final}
+use Rattle.calls.proofs.Repeats.{again-next, again-end}
+use Rattle.hub.specs.declared.Hub.{Hub}
+use Rattle.hub.specs.declared.Reply.{Reply}
+use Rattle.hub.specs.Hub.{on_hub}
+use Rattle.testbench.specs.Feeds.{sixteen}
+use Rattle.testbench.proofs.feeds.sixteen.Given as goal
+
+abbrev pub invariant-loop-i : goal.invariant-loop-i
+invariant-loop-i l = (i ≤ 16) × (final on_hub l.i (replicate (16 - i) (Open 2 (replicate 16 0) 16)) ≡ sixteen)
+
+abbrev pub decreases-loop-i : goal.decreases-loop-i
+decreases-loop-i l = 16 - i

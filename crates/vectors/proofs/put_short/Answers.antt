@@ -1,0 +1,37 @@
+-- `vectors::put_short` meets its contract. The loop's invariant: the first i lines are written behind the heading.
+-- Assumes nothing.
+use mathlib.Core.Path.{◌≡◌, ◌∙◌}
+use Prim.Native.Nat.{ℕ, ◌-◌, ◌≤◌, ◌+◌, ◌/◌, ◌%◌}
+use native.Mathlib.Omega.{arith}
+use borrow.Author.Rules.{rules}
+use Rattle.script.specs.Text.{Wrote}
+use Rattle.script.proofs.Texts.{wrote-length, wrote-more}
+use Rattle.vectors.specs.Lines.{lines, short_line, short_section}
+use Rattle.vectors.proofs.Lines.{wrote-no_line, wrote-next}
+use Rattle.vectors.proofs.put_short.Goals as goal
+
+pub loop-i-init : goal.loop-i-init
+loop-i-init c =
+    let a = c.args in
+    (omega arith, wrote-no_line (λ (j : ℕ). short_line a.bytes.now (j / 16) (j % 16 + 1)) c.put_bytes-next.ensures)
+
+pub put_short_line-next-requires : goal.put_short_line-next-requires
+put_short_line-next-requires c = (omega arith, omega arith, omega arith, omega arith)
+
+pub loop-i-preserved : goal.loop-i-preserved
+loop-i-preserved c =
+    let l = c.loop-i in
+    let a = c.args in (
+      omega arith,
+      wrote-next (λ (j : ℕ). short_line a.bytes.now (j / 16) (j % 16 + 1)) l.i l.invariant.1 c.put_short_line-next.ensures,
+    )
+
+pub shape_of-text : goal.shape_of-text
+shape_of-text c = wrote-length c.loop-i.invariant.1 ∙ wrote-length c.put_bytes-next.ensures
+
+pub returns : goal.returns
+unfolding short_section
+returns c =
+    let l = c.loop-i in
+    let all : l.i ≡ 272 = omega arith in
+    wrote-more c.put_bytes-next.ensures (rw all at l.invariant.1)

@@ -1,0 +1,11 @@
+-- `vectors::tagged_length` meets its contract.
+-- Assumes nothing.
+use native.Mathlib.Omega.{arith}
+use borrow.Author.Rules.{rules}
+use Rattle.word.proofs.Lists.{get_d_past}
+use Rattle.vectors.specs.Messages.{tagged, tagged_length}
+use Rattle.vectors.proofs.tagged_length.Goals as goal
+
+pub returns : goal.returns
+unfolding tagged_length
+returns c = rw (get_d_past tagged c.args.i (omega arith))
