@@ -10,7 +10,7 @@
 -- Assumes `Logic`.
 use Rattle.std.specs.Prelude.{ℕ, List, [], ◌∷◌}
 use seplogic.Ra.Ura.{Ura}
-use seplogic.Ra.TreeShare.{full_share}
+use base.Fraction.{full_share}
 use mir.Syntax.{Lifetime}
 use mir.Val.{Val, vptr}
 use base.Stored.{Gv}

@@ -13,8 +13,8 @@
 use Rattle.std.specs.Prelude.{◌≡◌, refl, ℕ, zero, List, [], ◌∷◌, T}
 use Rattle.std.proofs.Common.{sym, ap, subst}
 use seplogic.Ra.Ura.{Ura}
-use seplogic.Ra.TreeShare.{full_share}
-use mir.Syntax.{Name, Width, Ty, ty_int, Place, Opd as Operand, Body as Code, seq, call}
+use base.Fraction.{full_share}
+use mir.Syntax.{Callee, Width, Ty, ty_int, Place, Opd as Operand, Body as Code, seq, call}
 use mir.Val.{Val, vunit, vint, WT, has_ty}
 use base.Logic.{SProp, ent, emp, sep, ex, id⊢, via, assoc∗, assoc', mono∗, mono_r, fst∗, snd∗}
 use base.Fml.{ftrue, fat, froom, fdies}
@@ -74,13 +74,13 @@ typed {𝓤 = 𝓤} 𝓛 D L x is = ((LL.lawful D L 𝓛).typed x _ is).0
 module _ {M : Type 1} {𝓤 : Ura M} {𝓛 : Logic 𝓤} {K : Type 0} {Γ : List (Item 𝓤)} {E : Env 𝓤 𝓛.H} {C : Calls 𝓤 𝓛.H} {Λ : Loops 𝓤 𝓛.H} {q : Post 𝓤 𝓛.H} {d : Place} {rest : Code} where
   open 𝓛 use {H}
 
-  pub computes : K → FmC 𝓤 H 𝓛.laws C → {f : Name} {xs : List Operand} (c : Contract 𝓤) → Triple 𝓤 (C f) c → (x : c.Ghost) → ent 𝓤 (emp 𝓤) (c.pre x) → (R : RattleType) (y : R.Denot) {X : Type 0} (j : X → Item 𝓤)
+  pub computes : K → FmC 𝓤 H 𝓛.laws C → {f : Callee} {xs : List Operand} (c : Contract 𝓤) → Triple 𝓤 (C f) c → (x : c.Ghost) → ent 𝓤 (emp 𝓤) (c.pre x) → (R : RattleType) (y : R.Denot) {X : Type 0} (j : X → Item 𝓤)
       → ((v : Val) → ent 𝓤 (c.post x v) (H.⇛ (ex 𝓤 (λ (r : R.Denot). sep 𝓤 (sep 𝓤 (emp 𝓤) (sem 𝓛 (R.own_val r (v ∷ [])))) (ex 𝓤 (λ (w : X). sep 𝓤 (mean 𝓛 (j w)) (fact 𝓤 (r ≡ y))))))))
       → Opds K 𝓛 (raw (c.pre x) ∷ Γ) E xs (c.args x) → ((v : Val) → Is R y (v ∷ []) → Seq K 𝓛 Γ (lands C Λ E d v rest q))
       → Seq K 𝓛 Γ (runs C Λ E (seq (call f xs d) rest) q)
   computes t fm c met x pre R y j post os k = use0 𝓛 (raw (c.pre x)) pre $ calls_at t fm c met x os (λ v. told t tt R y v (‵ ftrue) j (post v) (λ is. drop t $ k v is))
 
-  pub does : K → FmC 𝓤 H 𝓛.laws C → {f : Name} {xs : List Operand} (c : Contract 𝓤) → Triple 𝓤 (C f) c → (x : c.Ghost) → ent 𝓤 (emp 𝓤) (c.pre x) → {X : Type 0} (j : X → Item 𝓤)
+  pub does : K → FmC 𝓤 H 𝓛.laws C → {f : Callee} {xs : List Operand} (c : Contract 𝓤) → Triple 𝓤 (C f) c → (x : c.Ghost) → ent 𝓤 (emp 𝓤) (c.pre x) → {X : Type 0} (j : X → Item 𝓤)
       → ((v : Val) → ent 𝓤 (c.post x v) (H.⇛ (ex 𝓤 (λ (r : Unit {0}). sep 𝓤 (sep 𝓤 (emp 𝓤) (sem 𝓛 (unit.own_val r (v ∷ [])))) (ex 𝓤 (λ (w : X). sep 𝓤 (mean 𝓛 (j w)) (emp 𝓤)))))))
       → Opds K 𝓛 (raw (c.pre x) ∷ Γ) E xs (c.args x) → Step K 𝓛 Γ (lands C Λ E d vunit rest q) Γ (runs C Λ E (seq (call f xs d) rest) q)
   does t fm c met x pre j post os = step (λ s. use0 𝓛 (raw (c.pre x)) pre $ calls_at t fm c met x os (λ v.
