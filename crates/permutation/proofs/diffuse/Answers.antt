@@ -3,7 +3,6 @@
 use mathlib.Core.Path.{refl}
 use Rattle.word.proofs.Arrays.{cons_same}
 use Rattle.permutation.specs.Permutation.{diffuse}
-use borrow.Author.Rules.{rules}
 use Rattle.permutation.proofs.diffuse.Goals as goal
 
 pub returns : goal.returns

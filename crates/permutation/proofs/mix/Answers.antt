@@ -1,7 +1,6 @@
 -- `permutation::mix` meets its contract, from what `rotate` ensures.
 -- Assumes nothing.
 use Rattle.permutation.specs.Permutation.{mix}
-use borrow.Author.Rules.{rules}
 use Rattle.permutation.proofs.mix.Goals as goal
 
 pub returns : goal.returns

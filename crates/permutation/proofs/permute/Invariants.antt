@@ -1,11 +1,8 @@
 -- `permutation::permute` meets its contract. The loop's invariant: the rounds that are left, of the state as it is, give what all n give of the first state.
 -- Assumes nothing.
-use mathlib.Core.Path.{◌≡◌, sym, ap, ◌∙◌}
-use mathlib.Core.List.{List}
-use Prim.Native.Nat.{ℕ, suc, ◌+◌, ◌-◌, ◌≤◌, ◌<◌, min}
-use native.Mathlib.Omega.{arith}
-use borrow.Author.Rules.{rules}
-use Rattle.permutation.specs.Permutation.{round, last_rounds, permute}
+use mathlib.Core.Path.{◌≡◌}
+use Prim.Native.Nat.{◌-◌, ◌≤◌}
+use Rattle.permutation.specs.Permutation.{last_rounds, permute}
 use Rattle.permutation.proofs.permute.Given as goal
 
 abbrev pub invariant-loop-i : goal.invariant-loop-i

@@ -9,7 +9,6 @@ use mir.Syntax.{w64}
 use borrow.Author.Tests.{eq-eqb, ne_eqb}
 use Rattle.word.proofs.Arrays.{array_length, written_out}
 use Rattle.permutation.specs.Permutation.{permute}
-use borrow.Author.Rules.{rules}
 use Rattle.permutation.proofs.permute_row.Goals as goal
 
 -- a row of five whose words are all stored anew
@@ -39,14 +38,16 @@ pub bounds-row-4-2 : goal.bounds-row-4-2
 bounds-row-4-2 c = simp length-set (omega arith)
 
 pub returns : goal.returns
-returns c = let both = (let tested = c.before.before.before.before.before.before in
+returns c =
+    let tested = c.before.before.before.before.before.before in
     let row = tested.args.row.now in
     let five : length row ≡ 5 = omega arith in
     let test = eq-eqb (length row) 5 five in
-    let t = c.permute-t.result in (
-      simp test refl,
-      simp test
-          (stored row t five (array_length w64 5 t _ c.permute-t.type-inv)
+    let t = c.permute-t.result in
+    record {
+      answer = simp test refl;
+      after = simp test
+          (stored row t five (array_length w64 5 t _ c.permute-t.type_inv)
           ∙ c.permute-t.ensures
-          ∙ ap (permute 12) (sym (written_out 5 row five))),
-    )) in record { answer = both.0; after = both.1 }
+          ∙ ap (permute 12) (sym (written_out 5 row five)));
+    }

@@ -2,7 +2,6 @@
 -- Assumes nothing.
 use native.Mathlib.Omega.{arith}
 use Rattle.word.proofs.Rotation.{rotr-by_shifts}
-use borrow.Author.Rules.{rules}
 use Rattle.permutation.proofs.rotate.Goals as goal
 
 pub returns : goal.returns

@@ -1,7 +1,6 @@
 -- `permutation::round` meets its contract, from what its three steps ensure.
 -- Assumes nothing.
 use Rattle.permutation.specs.Permutation.{add_constant, round}
-use borrow.Author.Rules.{rules}
 use Rattle.permutation.proofs.round.Goals as goal
 
 pub returns : goal.returns

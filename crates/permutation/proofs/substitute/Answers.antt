@@ -6,7 +6,6 @@ use Rattle.word.specs.Word.{bit, number}
 use Rattle.word.proofs.Circuit.{gates, by-table}
 use Rattle.word.proofs.Arrays.{array_length, array_below}
 use Rattle.permutation.specs.Permutation.{sbox, at_every_place, substitute}
-use borrow.Author.Rules.{rules}
 use Rattle.permutation.proofs.substitute.Goals as goal
 
 pub returns : goal.returns

@@ -1,7 +1,6 @@
 -- `state::byte_at` meets its contract.
 -- Assumes nothing.
 use Rattle.word.specs.Bytes.{weight, byte_at}
-use borrow.Author.Rules.{rules}
 use Rattle.state.proofs.byte_at.Goals as goal
 
 pub returns : goal.returns

@@ -2,10 +2,10 @@
 -- Assumes nothing.
 use mathlib.Core.Path.{◌≡◌, refl, sym, ap, ◌∙◌}
 use mathlib.Core.List.{[], ◌∷◌}
-use Prim.Native.Nat.{ℕ, ◌+◌, ◌*◌, ◌-◌, ◌/◌, ◌≤◌}
+use Prim.Native.Nat.{ℕ, ◌+◌, ◌*◌, ◌-◌, ◌/◌}
 use native.Mathlib.Omega.{arith}
 use borrow.Author.Rules.{rules}
-use lib.ListN.{length, take, length-set}
+use lib.ListN.{length, length-set}
 use lib.Seq.{length-sets}
 use Rattle.word.specs.Bytes.{bytes_from, to_bytes}
 use Rattle.word.proofs.Bytes.{bytes_from-word}
@@ -38,7 +38,7 @@ loop-i-smaller-then-whole_word c =
     let a = c.args in
     let word = whole (a.place + now.i) (length now.out - now.i)
     (sym c.whole_word.ensures ∙ c.if-whole_word.true) in
-    let same : length put.put_word.new.0 ≡ length now.out = rw put.put_word.ensures
+    let same : length put.put_word.new.out ≡ length now.out = rw put.put_word.ensures
     (length-sets now.out now.i (to_bytes 8 put.word_of.result)) in
     omega arith
 
@@ -54,7 +54,7 @@ loop-i-preserved-then-whole_word c =
     let index : 8 * ((a.place + now.i) / 8) ≡ a.place + now.i = omega arith in
     let eight : to_bytes 8 x.result ≡ bytes_from (a.place + now.i) 8 a.words =
     ap (to_bytes 8) x.ensures ∙ sym (bytes_from-word a.words ((a.place + now.i) / 8)) ∙ ap (λ (k : ℕ). bytes_from k 8 a.words) index in
-    let same : length put.put_word.new.0 ≡ length now.out = rw put.put_word.ensures (length-sets now.out now.i (to_bytes 8 x.result)) in (
+    let same : length put.put_word.new.out ≡ length now.out = rw put.put_word.ensures (length-sets now.out now.i (to_bytes 8 x.result)) in (
       omega arith,
       rw put.put_word.ensures (copied_next (to_bytes 8 x.result) now.out a.place now.i a.words (omega arith) now.invariant.1 eight),
       same ∙ now.invariant.2,

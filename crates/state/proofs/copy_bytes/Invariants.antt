@@ -1,15 +1,9 @@
 -- `state::copy_bytes` meets its contract. The loop's invariant: the first bytes of the slice are those that the words have from the place on.
 -- Assumes nothing.
-use mathlib.Core.Path.{◌≡◌, refl, sym, ap, ◌∙◌}
-use mathlib.Core.List.{[], ◌∷◌}
-use Prim.Native.Nat.{ℕ, ◌+◌, ◌*◌, ◌-◌, ◌/◌, ◌≤◌}
-use native.Mathlib.Omega.{arith}
-use borrow.Author.Rules.{rules}
-use lib.ListN.{length, take, length-set}
-use lib.Seq.{length-sets}
-use Rattle.word.specs.Bytes.{bytes_from, to_bytes}
-use Rattle.word.proofs.Bytes.{bytes_from-word}
-use Rattle.state.proofs.Copying.{whole, copied_next, copied_all}
+use mathlib.Core.Path.{◌≡◌}
+use Prim.Native.Nat.{◌-◌, ◌≤◌}
+use lib.ListN.{length, take}
+use Rattle.word.specs.Bytes.{bytes_from}
 use Rattle.state.proofs.copy_bytes.Given as goal
 
 abbrev pub invariant-loop-i : goal.invariant-loop-i

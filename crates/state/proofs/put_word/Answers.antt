@@ -10,7 +10,6 @@ use lib.ListN.{set, length-set}
 use lib.Seq.{sets}
 use Rattle.word.specs.Bytes.{to_bytes}
 use Rattle.word.proofs.Lists.{stored_is}
-use borrow.Author.Rules.{rules}
 use Rattle.state.proofs.put_word.Goals as goal
 
 pub bounds-out-i-2 : goal.bounds-out-i-2

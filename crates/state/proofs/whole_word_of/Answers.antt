@@ -8,7 +8,6 @@ use lib.Seq.{length-take-le}
 use Rattle.word.proofs.Bytes.{Bytes}
 use Rattle.word.proofs.Windows.{window-before, window-first}
 use Rattle.state.specs.State.{whole_words}
-use borrow.Author.Rules.{rules}
 use Rattle.state.proofs.whole_word_of.Goals as goal
 
 pub returns-then-j-bytes : goal.returns-then-j-bytes

@@ -6,7 +6,6 @@ use native.Mathlib.Omega.{arith}
 use Rattle.word.specs.Bytes.{window}
 use Rattle.word.proofs.Bytes.{Bytes}
 use Rattle.word.proofs.Windows.{window_past, window-before, window-all}
-use borrow.Author.Rules.{rules}
 use Rattle.state.proofs.window.Goals as goal
 
 pub returns-then-end-k : goal.returns-then-end-k

@@ -5,7 +5,6 @@ use mathlib.Core.Path.{◌≡◌, sym, ap, ap₂, ◌∙◌}
 use Prim.Native.Nat.{ℕ, suc, ◌+◌, ◌*◌, ◌-◌, ◌/◌, ◌%◌, ◌^◌, ◌≤◌, ◌<◌}
 use native.Mathlib.Nat.{lt_of_lt_of_le, zero-mul}
 use native.Mathlib.Omega.{arith}
-use borrow.Author.Rules.{rules}
 use lib.Bits.{bit_xor, xor_zero_r}
 use lib.ListN.{length, get_or, drop}
 use lib.Pow.{pow_pos, pow_mono, shl_exact}
@@ -21,18 +20,22 @@ fits x b p h l few = lt_of_lt_of_le (next-byte-lt x b p h l) (pow_mono {i = 8 * 
 module _ (k i start : ℕ) (whole : start % 8 ≡ 0) (from : start ≤ k + i) (to : k + i < start + 8) where
   word : (k + i) / 8 ≡ start / 8
   word = omega arith
--- TODO-PORT raw
+
+  -- TODO-PORT raw
 
   places : 8 + 8 * (start + 8 - (k + (i + 1))) ≡ 8 * (start + 8 - (k + i))
   places = omega arith
--- TODO-PORT raw
+
+  -- TODO-PORT raw
 
   here : 8 * (7 - (k + i) % 8) ≡ 8 * (start + 8 - (k + (i + 1)))
   here = omega arith
--- TODO-PORT raw
+
+  -- TODO-PORT raw
 
   further : k + (i + 1) - start ≡ suc (k + i - start)
   further = omega arith
+
 -- TODO-PORT raw
 
 pub loop-i-init : goal.loop-i-init

@@ -8,7 +8,6 @@ use lib.ListN.{get_or}
 use Rattle.word.specs.Bytes.{from_bytes}
 use Rattle.word.proofs.Bytes.{Bytes, part_bytes, from_bytes-by_shifts}
 use Rattle.word.proofs.Lists.{elements, part-written-out}
-use borrow.Author.Rules.{rules}
 use Rattle.state.proofs.word_at.Goals as goal
 
 pub returns : goal.returns

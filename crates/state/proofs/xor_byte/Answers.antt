@@ -4,7 +4,6 @@ use Prim.Native.Nat.{◌-◌, ◌*◌, ◌%◌}
 use native.Mathlib.Omega.{arith}
 use lib.Pow.{shl_exact}
 use Rattle.word.specs.Bytes.{weight, xor_at}
-use borrow.Author.Rules.{rules}
 use Rattle.state.proofs.xor_byte.Goals as goal
 
 pub returns : goal.returns

@@ -1,13 +1,9 @@
 -- `state::xor_bytes` meets its contract: each of the five words is xored with the number that the bytes make in it.
 -- Assumes nothing.
-use mathlib.Core.Path.{◌≡◌, sym}
-use lib.ListN.{length}
+use mathlib.Core.Path.{sym}
 use Rattle.word.proofs.Windows.{xor_from-words}
 use borrow.Author.Rules.{rules}
 use Rattle.state.proofs.xor_bytes.Goals as goal
-
-five : (c : goal.Start) → length c.args.words ≡ 5
-five c = search rules
 
 pub returns : goal.returns
 returns c =
@@ -19,4 +15,4 @@ returns c =
       c.window-2.ensures,
       c.window.ensures,
     ) (sym
-    (xor_from-words 5 a.bytes.now a.t1 a.place (five c.before.before.before.before.before.before)))
+    (xor_from-words 5 a.bytes.now a.words a.place (search rules)))

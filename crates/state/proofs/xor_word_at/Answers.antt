@@ -4,7 +4,6 @@ use mathlib.Core.Path.{◌≡◌, sym, ap, ◌∙◌}
 use mathlib.Core.List.{List}
 use Prim.Native.Nat.{ℕ, ◌+◌, ◌-◌, ◌*◌, ◌/◌, ◌%◌, ◌^◌, ◌<◌}
 use native.Mathlib.Omega.{arith}
-use borrow.Author.Rules.{rules}
 use Rattle.word.specs.Bytes.{xor_word, xor_from, to_bytes}
 use Rattle.word.proofs.WordAt.{shl_twice, xor_word-at}
 use Rattle.state.proofs.xor_word_at.Goals as goal

@@ -1,14 +1,10 @@
 -- `state::xor_words` meets its contract: each of the five words is xored with the number that the bytes make in it.
 -- Assumes nothing.
-use mathlib.Core.Path.{◌≡◌, sym}
-use lib.ListN.{length}
+use mathlib.Core.Path.{sym}
 use Rattle.word.proofs.Windows.{xor_from-words}
 use Rattle.state.specs.State.{whole_words}
 use borrow.Author.Rules.{rules}
 use Rattle.state.proofs.xor_words.Goals as goal
-
-five : (c : goal.Start) → length c.args.words ≡ 5
-five c = search rules
 
 pub returns : goal.returns
 returns c =
@@ -20,4 +16,4 @@ returns c =
       c.whole_word_of-2.ensures,
       c.whole_word_of.ensures,
     )
-    (sym (xor_from-words 5 (whole_words a.bytes.now) a.t1 0 (five c.before.before.before.before.before.before)))
+    (sym (xor_from-words 5 (whole_words a.bytes.now) a.words 0 (search rules)))
