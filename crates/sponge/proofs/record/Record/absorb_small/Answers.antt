@@ -16,7 +16,7 @@ pub xor_few-requires : goal.xor_few-requires
 xor_few-requires c =
     let a = c.args in
     let place = c.feed_place-place.ensures in
-    (omega (arith, place, mod-lt a.self.fed (rates a.self.mode).feeds, (rates a.self.mode).feeds-inside), leb-true (length a.bytes.now) 8 c.if-bytes-le8.true)
+    (omega (arith, place, mod-lt a.self.fed (rates a.self.mode).feeds, (rates a.self.mode).feeds-inside), c.if-bytes-le8.true)
 
 pub returns-then-bytes-le8 : goal.returns-then-bytes-le8
 returns-then-bytes-le8 c =

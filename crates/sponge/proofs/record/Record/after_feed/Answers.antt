@@ -9,4 +9,4 @@ pub returns : goal.returns
 unfolding after_feed sum64
 returns c =
     let a = c.args in
-    ap (λ (n : ℕ). with_fed n (with_core a.words a.runs a.self)) c.wrapping_add_u64.ensures
+    ap (λ (n : ℕ). with_fed n (with_core a.words a.runs a.self)) c.wrapping_add_u64.ensures.value

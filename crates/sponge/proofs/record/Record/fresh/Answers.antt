@@ -10,14 +10,14 @@ use Rattle.sponge.proofs.record.Record.fresh.Goals as goal
 
 pub slice_bounds-used-end : goal.slice_bounds-used-end
 slice_bounds-used-end c =
-    let least = c.before.shorter in
+    let least = c.shorter-length in
     sym (length-take-le least.result c.args.key.now (omega (arith, least.ensures)))
 
 pub returns : goal.returns
 unfolding fresh
 returns c =
     let a = c.args in
-    let bytes : Bytes a.key.now = λ i. omega (arith, c.before.before.before.before.before.before.before.shared-slice-known.given i) in
+    let bytes : Bytes a.key.now = λ i. omega (arith, c.shared_slice_known-1.given i) in
     let word = c.start_word in
-    let fits : (row a.mode).start_word < 2 ^ 64 = omega (arith, word.type-inv, word.ensures) in
-    rw (c.run.ensures, c.word_of_bytes-2.ensures, c.word_of_bytes.ensures, c.start_word.ensures, c.before.before.before.before.before.shorter.ensures, c.before.before.before.before.before.before.key-length.ensures, take_min (row a.mode).key_length a.key.now, initial-words a.mode a.key.now bytes fits) refl
+    let fits : (row a.mode).start_word < 2 ^ 64 = omega (arith, word.type_inv, word.ensures) in
+    rw (c.run.ensures, c.word_of_bytes-2.ensures, c.word_of_bytes.ensures, c.start_word.ensures, c.shorter-length.ensures, c.key_length.ensures, take_min (row a.mode).key_length a.key.now, initial-words a.mode a.key.now bytes fits) refl

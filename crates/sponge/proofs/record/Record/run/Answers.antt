@@ -8,4 +8,4 @@ pub returns : goal.returns
 unfolding after_run sum64
 returns c =
     let r = c.args.self in
-    ap₂ (λ (words : List ℕ) (runs : ℕ). with_core words runs r) c.permute-after.ensures c.wrapping_add_u64.ensures
+    ap₂ (λ (words : List ℕ) (runs : ℕ). with_core words runs r) c.permute-after.ensures c.wrapping_add_u64.ensures.value

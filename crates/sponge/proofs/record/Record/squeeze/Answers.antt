@@ -52,9 +52,6 @@ slice_bounds-copy_bytes-count c = omega (arith, c.shorter.ensures)
 pub slice_bounds-copy_bytes-start : goal.slice_bounds-copy_bytes-start
 slice_bounds-copy_bytes-start c = omega (arith, c.shorter.ensures)
 
-pub slice_bounds-copy_bytes-end : goal.slice_bounds-copy_bytes-end
-slice_bounds-copy_bytes-end c = omega (arith, c.before.shorter2.ensures)
-
 -- a part that is not empty leaves less to do
 less-left : (n done k rate room : ℕ) → k ≡ min rate room → 0 < rate → 0 < room → done < n → n - (done + k) < n - done
 less-left n done k rate room least some more h = omega arith
@@ -102,12 +99,14 @@ shape_of-out c =
 
 pub returns : goal.returns
 unfolding squeezed next_bytes sum64
-returns c = let both = (let a = c.args in
+returns c =
+    let a = c.args in
     let last = c.loop-done in
     let w = row a.self.mode in
     let count : _ ≡ length a.out.now = sym last.invariant.long ∙ shape_of-out c in
-    let all = squeeze-all w (rates a.self.mode).draws a.self _ last.out last.current last.done last.invariant (omega (arith, last.invariant.long)) in (
-      ap₂ with_drawn (c.wrapping_add_u64.ensures ∙ ap (λ (n : ℕ). (a.self.drawn + n) % 2 ^ 64) (shape_of-out c))
-          (all.0 ∙ ap (λ (n : ℕ). after_drawing w a.self.drawn n a.self) count),
-      all.1 ∙ ap (λ (n : ℕ). drawn_bytes w a.self.drawn n a.self) count,
-    )) in record { after = both.0; written = both.1 }
+    let all = squeeze-all w (rates a.self.mode).draws a.self _ last.out last.current last.done last.invariant (omega (arith, last.invariant.long)) in
+    record {
+      after = ap₂ with_drawn (c.wrapping_add_u64.ensures.value ∙ ap (λ (n : ℕ). (a.self.drawn + n) % 2 ^ 64) (shape_of-out c))
+          (all.0 ∙ ap (λ (n : ℕ). after_drawing w a.self.drawn n a.self) count);
+      written = all.1 ∙ ap (λ (n : ℕ). drawn_bytes w a.self.drawn n a.self) count;
+    }
