@@ -2,13 +2,16 @@
 // answers to what was read before have been written, and after a failed write nothing more is.
 #![tactic(auto)]
 
-ghost use Rattle.std.specs.Prelude.{◌≡◌, true, ◌&&◌, eqb, pos};
+ghost use Rattle.std.specs.Prelude.{◌≡◌, true, ◌&&◌, eqb, length, pos, ◌≤ℤ◌};
 ghost use Rattle.interpreter.specs.Session.{begun, reader_of, finished};
-ghost use Rattle.rampscript.specs.Program.{more as moreTurns, Answering, Turning, Running, Ending};
+ghost use Rattle.rampscript.specs.Program.{more as more_turns, Answering, Turning, Running, Ending};
 ghost use Rattle.std.specs.Int.Signed.{lt_z};
 
 use interpreter::Session;
-use libc::{STDIN_FILENO, STDOUT_FILENO};
+use std::io::Read;
+
+// Standard output, as `io` numbers it.
+const STDOUT: i32 = 1;
 
 // A script after a chunk, and whether its answers were written.
 #[derive(Clone, Copy)]
@@ -45,7 +48,7 @@ fn start() -> Answered
     let mut out = io::large_buffer();
     let begun = interpreter::begin(&mut out);
     let size = begun.size;
-    let wrote = io::write_all(STDOUT_FILENO, &out[..size]);
+    let wrote = io::write_all(STDOUT, &out[..size]);
     let session = begun.session;
     Answered {
         session: session,
@@ -66,7 +69,7 @@ fn answer(first: Session, chunk: &[u8], line: &mut [u8; 2100]) -> Answered
         session = after;
         at = filled.next;
         let size = filled.size;
-        if !io::write_all(STDOUT_FILENO, &out[..size]) {
+        if !io::write_all(STDOUT, &out[..size]) {
             return Answered {
                 session: session,
                 wrote: false,
@@ -90,12 +93,22 @@ fn read_failed(got: isize, count: usize) -> bool
     got < 0
 }
 
+// What a read of standard input gave: so many bytes, or -1 where it failed.
+fn read_chunk(rt: &HostRuntime, chunk: &mut [u8]) -> isize
+    ensures { result ≤ℤ pos (length chunk.new) }
+{
+    match rt.stdin().read(chunk) {
+        Ok(count) => count as isize,
+        Err(_) => -1,
+    }
+}
+
 // Reads a chunk, whatever there is to read, and answers it.
-fn make_turn(session: Session, line: &mut [u8; 2100]) -> Turn
+fn make_turn(rt: &HostRuntime, session: Session, line: &mut [u8; 2100]) -> Turn
     ensures { Turning (reader_of session line.old) result line.new }
 {
     let mut chunk = io::large_buffer();
-    let got = libc::read(STDIN_FILENO, &mut chunk);
+    let got = read_chunk(rt, &mut chunk);
     let count = io::count(got, &chunk);
     let answered = answer(session, &chunk[..count], line);
     let after = answered.session;
@@ -108,7 +121,7 @@ fn make_turn(session: Session, line: &mut [u8; 2100]) -> Turn
 }
 
 fn more(turn: Turn) -> bool
-    ensures { result ≡ moreTurns turn }
+    ensures { result ≡ more_turns turn }
 {
     if !turn.wrote {
         return false;
@@ -120,12 +133,12 @@ fn more(turn: Turn) -> bool
 }
 
 // Makes turns until none is to be made.
-fn run(first: Session, line: &mut [u8; 2100]) -> Turn
+fn run(rt: &HostRuntime, first: Session, line: &mut [u8; 2100]) -> Turn
     ensures { Running (reader_of first line.old) result line.new }
 {
     let mut session = first;
     loop {
-        let next = make_turn(session, line);
+        let next = make_turn(rt, session, line);
         if !more(next) {
             return next;
         }
@@ -142,12 +155,12 @@ fn end(session: Session, line: &mut [u8; 2100]) -> Session
     let mut out = io::large_buffer();
     let last = interpreter::finish(session, line, &mut out);
     let size = last.size;
-    io::write_all(STDOUT_FILENO, &out[..size]);
+    io::write_all(STDOUT, &out[..size]);
     last.session
 }
 
 // The whole script. Where a write or a read fails nothing more is read or written.
-fn run_script(line: &mut [u8; 2100]) -> Ended
+fn run_script(rt: &HostRuntime, line: &mut [u8; 2100]) -> Ended
     ensures { Ending line.old result line.new }
 {
     let started = start();
@@ -160,7 +173,7 @@ fn run_script(line: &mut [u8; 2100]) -> Ended
             wrote: false,
         };
     }
-    let last = run(first, line);
+    let last = run(rt, first, line);
     let session = last.session;
     let failed = last.failed;
     let wrote = last.wrote;
@@ -188,7 +201,7 @@ fn run_script(line: &mut [u8; 2100]) -> Ended
     }
 }
 
-fn main() {
+fn main(rt: HostRuntime) {
     let mut line = [0u8; 2100];
-    run_script(&mut line);
+    run_script(&rt, &mut line);
 }
