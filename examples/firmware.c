@@ -1,6 +1,6 @@
 /* A sensor's frame from end to end: its key is derived from the master key, a frame is sealed, judged, and judged again after damage on the way.
  *
- * Build: rt staticlib firmware && cc -std=c99 -Iinclude -o target/firmware examples/firmware.c target/staticlib/libfirmware.a */
+ * Build: ./build firmware && cc -std=c99 -Iinclude -o target/firmware examples/firmware.c target/staticlib/libfirmware.a */
 #include "firmware.h"
 
 #include <stdio.h>

@@ -1,6 +1,6 @@
 /* Hashes a message, and judges a tag.
  *
- *     rt staticlib testbench
+ *     ./build testbench
  *     cc -Iinclude -o target/hash examples/hash.c target/staticlib/libtestbench.a && target/hash
  */
 #include "testbench.h"

@@ -1,6 +1,6 @@
 /* Permutes the start of the hash and prints the five words; then lends a row of four, which is refused.
  *
- *     rt staticlib testbench
+ *     ./build testbench
  *     cc -Iinclude -o target/permute examples/permute.c target/staticlib/libtestbench.a && target/permute
  */
 #include "testbench.h"

@@ -1,4 +1,4 @@
-/* Ascon for sign firmware: the C functions of target/staticlib/libfirmware.a, which `rt staticlib firmware` writes for x86-64.
+/* Ascon for sign firmware: the C functions of target/staticlib/libfirmware.a, which `./build firmware` writes for x86-64.
  *
  * A sign derives its key from a master key by the short function, seals the frames that it sends, and judges the frames that it gets.
  *

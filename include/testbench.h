@@ -1,5 +1,5 @@
 /* The Ascon permutation and sponge, the runs of frames, and feeds through the hub, for the test bench: the C functions of target/staticlib/libtestbench.a, which
- * `rt staticlib testbench` writes.
+ * `./build testbench` writes.
  *
  * All are proved; crates/testbench/src has what each promises. They keep nothing between calls and allocate nothing.
  * C is trusted to hand over valid buffers of the lengths that it names, of which the one written to overlaps no other. No pointer is null, not even to no bytes. */

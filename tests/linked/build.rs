@@ -1,4 +1,4 @@
-//! Links the archives that `rt staticlib testbench` and `rt staticlib firmware` write.
+//! Links the archives that `./build testbench firmware` puts into target/staticlib.
 use std::path::Path;
 
 fn main() {
@@ -7,7 +7,7 @@ fn main() {
         let archive = folder.join(format!("lib{library}.a"));
         assert!(
             archive.exists(),
-            "{} is missing: `rt staticlib {library}` writes it, and ./test runs that",
+            "{} is missing: `./build {library}` writes it, and ./test runs that",
             archive.display()
         );
         println!("cargo:rerun-if-changed={}", archive.display());

@@ -31,7 +31,8 @@ pub fn crates() -> Vec<String> {
         .lines()
         .filter(|line| !line.starts_with('#'))
         .filter_map(|line| line.split_once(':'))
-        .map(|(name, _)| name.to_owned())
+        .filter_map(|(name, _)| name.split_whitespace().next())
+        .map(str::to_owned)
         .collect()
 }
 
@@ -85,7 +86,8 @@ impl Names {
             path.file_stem()
                 .map(|stem| stem.to_string_lossy().into_owned()),
         );
-        if path.ends_with("tests/docs") {
+        // rt's own folder, out, holds what it has built.
+        if path.ends_with("tests/docs") || path.ends_with("out") {
             return;
         }
         if path.is_dir() {

@@ -47,7 +47,7 @@ pub fn program() -> PathBuf {
     let program = std::env::var_os("RAMPSCRIPT").map_or(built, PathBuf::from);
     assert!(
         program.exists(),
-        "{} is missing: `rt check rampscript` builds it",
+        "{} is missing: `./build rampscript` builds it",
         program.display()
     );
     program
