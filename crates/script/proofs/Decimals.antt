@@ -12,13 +12,13 @@ use lib.ListN.{length}
 use borrow.Author.Tests.{lt-ltb, le-ltb, ne_eqb, leb-true, eqb-false, not-true}
 use Rattle.script.specs.Number.{found, most_number, is_digit, all_digits, plain_start, value_from, number_of, spelled, decimal}
 use Rattle.script.proofs.Texts.{and_left, and_right}
-use Rattle.script.proofs.Numbers.{is_digit, below_tenth, decimal-small, a-number, value-least}
+use Rattle.script.proofs.Numbers.{is_digit_lem, below_tenth, decimal-small, a-number, value-least}
 
 -- ---- what is spelled is read back
 
 digit_on : (d : ℕ) (r : List ℕ) → d < 10 → all_digits ((48 + d) ∷ r) ≡ all_digits r
 unfolding all_digits
-digit_on d r h = rw (is_digit (48 + d) (omega arith) (omega arith))
+digit_on d r h = rw (is_digit_lem (48 + d) (omega arith) (omega arith))
 
 -- n is below ten, or the last digit goes first
 small_or : (n k : ℕ) (r : List ℕ) → n < 10 → spelled (suc k) n r ≡ (48 + n) ∷ r

@@ -6,7 +6,7 @@ pub mod HexDigits
 pub mod HexTexts
 pub mod Lines
 pub mod RoundTrip
-pub mod Parsed
+pub mod ParsedLines
 pub mod Answers
 pub mod Pieces
 pub mod Examples

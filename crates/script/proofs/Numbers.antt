@@ -37,9 +37,9 @@ bad_digit s i h e = rw (digits_next s i h, e)
 pub good_digit : (s : List ℕ) (i : ℕ) → i < length s → is_digit (get_or s i 0) ≡ true → all_digits (drop i s) ≡ all_digits (drop (i + 1) s)
 good_digit s i h e = rw (digits_next s i h, e)
 
-pub is_digit : (b : ℕ) → 48 ≤ b → b ≤ 57 → is_digit b ≡ true
+pub is_digit_lem : (b : ℕ) → 48 ≤ b → b ≤ 57 → is_digit b ≡ true
 unfolding is_digit
-is_digit b lo hi = simp (le-leb 48 b lo, le-leb b 57 hi)
+is_digit_lem b lo hi = simp (le-leb 48 b lo, le-leb b 57 hi)
 
 pub too_low : (b : ℕ) → b < 48 → is_digit b ≡ false
 unfolding is_digit

@@ -2,7 +2,7 @@
 -- Assumes nothing.
 use mathlib.Core.Path.{◌≡◌, refl, sym, ap, ◌∙◌, subst}
 use mathlib.Core.Bool.{Bool, true, false, cond, ◌&&◌, false≢true}
-use mathlib.Core.List.{List, [], ◌∷◌, ◌++◌, append-nil}
+use mathlib.Core.List.{List, [], ◌∷◌, ◌++◌}
 use Prim.Native.Nat.{ℕ, suc, ◌+◌, ◌-◌, ◌≤◌, ◌<◌, min}
 use native.Mathlib.Nat.{min-eq_left, min-eq_right, add-suc, suc-add, add-zero}
 use native.Mathlib.Numerals.{add-one}
@@ -10,7 +10,7 @@ use native.Mathlib.Omega.{arith}
 use native.Mathlib.Decide.{dec_le}
 use lib.Dec.{eqb}
 use lib.ListN.{length, get_or, set, take, drop, take-append-drop, length-append, length-drop, drop_of_length-le}
-use lib.Seq.{drop-cons, take-suc, take-nil, drop-length, take_all, length-take-le, set_out, sets, sets-eq, length-sets}
+use lib.Seq.{drop-cons, take-suc, take-nil, drop-length, take_all, length-take-le, set_out, sets, length-sets}
 use borrow.Author.Tests.{eq-eqb, ne_eqb, eqb-true}
 use Rattle.checks.proofs.Buffers.{part_to_end}
 use Rattle.script.specs.Text.{before, after, Wrote}

@@ -1,6 +1,5 @@
 -- `script::answer::write_answer` meets its contract.
 -- Assumes nothing.
-use borrow.Author.Rules.{rules}
 use Rattle.script.specs.Answer.{answer_line}
 use Rattle.script.proofs.Texts.{wrote-more}
 use Rattle.script.proofs.answer.write_answer.Goals as goal

@@ -1,26 +1,25 @@
 -- `script::hex::decode` meets its contract. The loop's invariant: what is left of the text, decoded, goes behind the bytes that are stored.
 -- Assumes nothing.
-use mathlib.Core.Path.{◌≡◌, refl}
-use Prim.Native.Nat.{◌≤◌, ◌-◌, ◌*◌, ◌/◌}
+use mathlib.Core.Path.{refl}
+use Prim.Native.Nat.{◌*◌}
 use native.Mathlib.Omega.{arith}
-use lib.ListN.{length, length-set}
-use Rattle.script.proofs.HexTexts.{high_digit-at, low_digit-at, Decoding, decoding_starts, decoding_goes_on, decoding_ends}
+use lib.ListN.{length-set}
+use Rattle.script.proofs.HexTexts.{high_digit-at, low_digit-at, decoding_starts, decoding_goes_on, decoding_ends}
 use Rattle.script.proofs.hex.decode.Goals as goal
 
 pub loop-i-init : goal.loop-i-init
 loop-i-init c = (omega arith, refl, refl, decoding_starts _ _ c.requires.0)
 
 pub nibble-requires : goal.nibble-requires
-nibble-requires c = let l = c.loop-i in high_digit-at c.args.s.now (2 * l.i) (omega arith)
-    l.invariant.3.pairs
+nibble-requires c = let l = c.loop-i in high_digit-at c.args.s.now (2 * l.i) (omega arith) l.invariant.3.pairs
 
 pub overflow_mul-buffer : goal.overflow_mul-buffer
-overflow_mul-buffer c = let l = c.loop-i in omega
-    (arith, c.nibble.ensures, high_digit-at c.args.s.now (2 * l.i) (omega arith) l.invariant.3.pairs)
+overflow_mul-buffer c =
+    let l = c.loop-i in
+    omega (arith, c.nibble.ensures, high_digit-at c.args.s.now (2 * l.i) (omega arith) l.invariant.3.pairs)
 
 pub nibble-requires-in-loop-i : goal.nibble-requires-in-loop-i
-nibble-requires-in-loop-i c = let l = c.loop-i in low_digit-at
-    c.args.s.now (2 * l.i) (omega arith) l.invariant.3.pairs
+nibble-requires-in-loop-i c = let l = c.loop-i in low_digit-at c.args.s.now (2 * l.i) (omega arith) l.invariant.3.pairs
 
 pub overflow_add-buffer : goal.overflow_add-buffer
 overflow_add-buffer c =

@@ -1,10 +1,9 @@
 -- `script::hex::decode` meets its contract. The loop's invariant: what is left of the text, decoded, goes behind the bytes that are stored.
 -- Assumes nothing.
-use mathlib.Core.Path.{◌≡◌, refl}
-use Prim.Native.Nat.{◌≤◌, ◌-◌, ◌*◌, ◌/◌}
-use native.Mathlib.Omega.{arith}
-use lib.ListN.{length, length-set}
-use Rattle.script.proofs.HexTexts.{high_digit-at, low_digit-at, Decoding, decoding_starts, decoding_goes_on, decoding_ends}
+use mathlib.Core.Path.{◌≡◌}
+use Prim.Native.Nat.{◌≤◌, ◌-◌, ◌/◌}
+use lib.ListN.{length}
+use Rattle.script.proofs.HexTexts.{Decoding}
 use Rattle.script.proofs.hex.decode.Given as goal
 
 abbrev pub invariant-loop-i : goal.invariant-loop-i

@@ -1,6 +1,5 @@
 -- `script::hex::digit_of` meets its contract.
 -- Assumes nothing.
-use borrow.Author.Rules.{rules}
 use borrow.Author.Tests.{lt-ltb, le-ltb}
 use Rattle.script.specs.Hex.{digit_of}
 use Rattle.script.proofs.hex.digit_of.Goals as goal

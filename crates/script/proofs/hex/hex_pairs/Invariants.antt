@@ -1,15 +1,11 @@
 -- `script::hex::hex_pairs` meets its contract. The loop's invariant: the answer so far, and that what is left are digits, is the whole answer.
 -- Assumes nothing.
-use mathlib.Core.Path.{◌≡◌, sym, ap, ◌∙◌}
-use mathlib.Core.Logic.{⊎_elim}
-use mathlib.Core.Bool.{Bool, ◌&&◌}
-use Prim.Native.Nat.{◌+◌, ◌-◌, ◌≤◌}
-use native.Mathlib.Omega.{arith}
+use mathlib.Core.Path.{◌≡◌}
+use mathlib.Core.Bool.{◌&&◌}
+use Prim.Native.Nat.{◌-◌, ◌≤◌}
 use lib.ListN.{length, drop}
-use borrow.Author.Rules.{rules}
-use borrow.Author.Tests.{not-true, not-false}
 use Rattle.script.specs.Hex.{hex_pairs}
-use Rattle.script.proofs.HexTexts.{all_hex, even_digits, digits_end, digit_good, digit_bad}
+use Rattle.script.proofs.HexTexts.{all_hex}
 use Rattle.script.proofs.hex.hex_pairs.Given as goal
 
 abbrev pub invariant-loop-i : goal.invariant-loop-i

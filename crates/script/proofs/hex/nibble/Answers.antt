@@ -1,7 +1,6 @@
 -- `script::hex::nibble` meets its contract.
 -- Assumes nothing.
 use mathlib.Core.Path.{sym}
-use borrow.Author.Rules.{rules}
 use Rattle.script.proofs.HexDigits.{nibble_digit, nibble_letter, digit_least, letter_range}
 use Rattle.script.proofs.hex.nibble.Goals as goal
 

@@ -1,6 +1,5 @@
 -- `script::hex::put_field` meets its contract.
 -- Assumes nothing.
-use borrow.Author.Rules.{rules}
 use Rattle.script.proofs.Lines.{bytes-text-none, bytes-text-some}
 use Rattle.script.proofs.hex.put_field.Goals as goal
 

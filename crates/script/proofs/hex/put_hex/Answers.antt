@@ -1,11 +1,7 @@
 -- `script::hex::put_hex` meets its contract. The loop's invariant: the first i bytes are written.
 -- Assumes nothing.
-use Prim.Native.Nat.{◌≤◌, ◌-◌}
 use native.Mathlib.Omega.{arith}
-use lib.ListN.{length, take}
 use lib.Seq.{take_all}
-use borrow.Author.Rules.{rules}
-use Rattle.script.specs.Text.{Wrote}
 use Rattle.script.specs.Hex.{hex_of}
 use Rattle.script.proofs.Texts.{wrote-length, wrote_none, wrote-more}
 use Rattle.script.proofs.HexTexts.{hex-next}
@@ -13,14 +9,10 @@ use Rattle.script.proofs.hex.put_hex.Goals as goal
 
 pub loop-i-init : goal.loop-i-init
 unfolding hex_of
-loop-i-init c = (
-  omega arith,
-  wrote_none c.args.out.now c.args.at c.place_in-next.result
-      c.place_in-next.ensures,
-)
+loop-i-init c = (omega arith, wrote_none c.args.out.now c.args.at c.place_in-next.result c.place_in-next.ensures)
 
 pub digit_of-requires : goal.digit_of-requires
-digit_of-requires c = omega (arith, c.shared_slice_known-in-loop-i-1.given c.loop-i.i)
+digit_of-requires c = omega (arith, c.type_inv.bytes c.loop-i.i)
 
 pub loop-i-preserved : goal.loop-i-preserved
 loop-i-preserved c =
@@ -29,8 +21,7 @@ loop-i-preserved c =
       omega arith,
       rw (hex-next s l.i (omega arith))
           (wrote-more
-          (wrote-more l.invariant.1 (rw c.digit_of.ensures at
-          c.put_byte-next.ensures))
+          (wrote-more l.invariant.1 (rw c.digit_of.ensures at c.put_byte-next.ensures))
           (rw c.digit_of-in-loop-i.ensures at c.put_byte-next-in-loop-i.ensures)),
     )
 

@@ -1,14 +1,9 @@
 -- `script::hex::put_hex` meets its contract. The loop's invariant: the first i bytes are written.
 -- Assumes nothing.
 use Prim.Native.Nat.{◌≤◌, ◌-◌}
-use native.Mathlib.Omega.{arith}
 use lib.ListN.{length, take}
-use lib.Seq.{take_all}
-use borrow.Author.Rules.{rules}
 use Rattle.script.specs.Text.{Wrote}
 use Rattle.script.specs.Hex.{hex_of}
-use Rattle.script.proofs.Texts.{wrote-length, wrote_none, wrote-more}
-use Rattle.script.proofs.HexTexts.{hex-next}
 use Rattle.script.proofs.hex.put_hex.Given as goal
 
 abbrev pub invariant-loop-i : goal.invariant-loop-i

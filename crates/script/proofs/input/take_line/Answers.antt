@@ -3,7 +3,6 @@
 use mathlib.Core.Path.{ap, ◌∙◌}
 use lib.ListN.{length}
 use lib.Seq.{sets}
-use borrow.Author.Rules.{rules}
 use Rattle.script.proofs.Pieces.{piece-taken}
 use Rattle.script.proofs.input.take_line.Goals as goal
 

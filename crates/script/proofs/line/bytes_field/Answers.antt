@@ -2,7 +2,6 @@
 -- Assumes nothing.
 use mathlib.Core.Path.{refl, sym, ap, ◌∙◌}
 use native.Mathlib.Omega.{arith}
-use borrow.Author.Rules.{rules}
 use Rattle.script.specs.declared.line.Parsed.TheVariants.{Call}
 use Rattle.script.specs.Line.{bytes_of}
 use Rattle.script.proofs.Lines.{hex-short, hex-pairs}
@@ -10,7 +9,7 @@ use Rattle.script.proofs.line.bytes_field.Goals as goal
 
 pub returns-then-is_dash : goal.returns-then-is_dash
 unfolding bytes_of
-returns-then-is_dash c = let both = (rw (sym c.is_dash.ensures ∙ c.if-is_dash.true) (refl, refl)) in record { answer = both.0; buffer = both.1 }
+returns-then-is_dash c = rw (sym c.is_dash.ensures ∙ c.if-is_dash.true) record { answer = refl; buffer = refl }
 
 pub decode-size-requires : goal.decode-size-requires
 decode-size-requires c =
@@ -20,15 +19,15 @@ decode-size-requires c =
 
 pub returns-then-is_hex : goal.returns-then-is_hex
 unfolding bytes_of
-returns-then-is_hex c = let both = (let a = c.args in
+returns-then-is_hex c =
+    let a = c.args in
     let decoded = c.decode-size.ensures in
     rw (
       sym c.is_dash.ensures ∙ c.if-is_dash.false,
       sym c.is_hex.ensures ∙ c.if-is_hex.true,
     )
-    (ap (Call a.verb a.number) decoded.1, decoded.0)) in record { answer = both.0; buffer = both.1 }
+    record { answer = ap (Call a.verb a.number) decoded.1; buffer = decoded.0 }
 
 pub returns : goal.returns
 unfolding bytes_of
-returns c = let both = (rw (sym c.is_dash.ensures ∙ c.if-is_dash.false, sym c.is_hex.ensures ∙ c.if-is_hex.false)
-    (refl, refl)) in record { answer = both.0; buffer = both.1 }
+returns c = rw (sym c.is_dash.ensures ∙ c.if-is_dash.false, sym c.is_hex.ensures ∙ c.if-is_hex.false) record { answer = refl; buffer = refl }

@@ -1,7 +1,6 @@
 -- `script::line::empty_field` meets its contract.
 -- Assumes nothing.
 use mathlib.Core.Path.{sym, ◌∙◌}
-use borrow.Author.Rules.{rules}
 use Rattle.script.specs.Line.{no_bytes_of}
 use Rattle.script.proofs.line.empty_field.Goals as goal
 

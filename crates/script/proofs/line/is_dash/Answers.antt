@@ -1,6 +1,5 @@
 -- `script::line::is_dash` meets its contract.
 -- Assumes nothing.
-use borrow.Author.Rules.{rules}
 use Rattle.script.specs.Line.{is_dash}
 use Rattle.script.proofs.line.is_dash.Goals as goal
 

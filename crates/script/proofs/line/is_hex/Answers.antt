@@ -1,6 +1,5 @@
 -- `script::line::is_hex` meets its contract.
 -- Assumes nothing.
-use borrow.Author.Rules.{rules}
 use borrow.Author.Tests.{le-leb, lt-leb}
 use Rattle.script.specs.Line.{is_hex}
 use Rattle.script.proofs.line.is_hex.Goals as goal

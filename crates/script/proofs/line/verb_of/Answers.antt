@@ -1,14 +1,12 @@
 -- `script::line::verb_of` meets its contract.
 -- Assumes nothing.
 use mathlib.Core.Path.{sym, ◌∙◌}
-use borrow.Author.Rules.{rules}
 use Rattle.script.specs.Line.{verb_of}
 use Rattle.script.proofs.line.verb_of.Goals as goal
 
 pub returns-then-same : goal.returns-then-same
 unfolding verb_of
-returns-then-same c =
-    rw (sym c.same.ensures ∙ c.if-same.true)
+returns-then-same c = rw (sym c.same.ensures ∙ c.if-same.true)
 
 pub returns-then-same-2 : goal.returns-then-same-2
 unfolding verb_of
@@ -31,8 +29,7 @@ pub returns-then-same-4 : goal.returns-then-same-4
 unfolding verb_of
 returns-then-same-4 c =
     rw (
-      sym c.same.ensures
-          ∙ c.if-same.false,
+      sym c.same.ensures ∙ c.if-same.false,
       sym c.same-2.ensures ∙ c.if-same-2.false,
       sym c.same-3.ensures ∙ c.if-same-3.false,
       sym c.same-4.ensures ∙ c.if-same-4.true,
@@ -42,10 +39,8 @@ pub returns-then-same-5 : goal.returns-then-same-5
 unfolding verb_of
 returns-then-same-5 c =
     rw (
-      sym c.same.ensures
-          ∙ c.if-same.false,
-      sym c.same-2.ensures
-          ∙ c.if-same-2.false,
+      sym c.same.ensures ∙ c.if-same.false,
+      sym c.same-2.ensures ∙ c.if-same-2.false,
       sym c.same-3.ensures ∙ c.if-same-3.false,
       sym c.same-4.ensures ∙ c.if-same-4.false,
       sym c.same-5.ensures ∙ c.if-same-5.true,
@@ -55,12 +50,9 @@ pub returns-then-same-6 : goal.returns-then-same-6
 unfolding verb_of
 returns-then-same-6 c =
     rw (
-      sym c.same.ensures
-          ∙ c.if-same.false,
-      sym c.same-2.ensures
-          ∙ c.if-same-2.false,
-      sym c.same-3.ensures
-          ∙ c.if-same-3.false,
+      sym c.same.ensures ∙ c.if-same.false,
+      sym c.same-2.ensures ∙ c.if-same-2.false,
+      sym c.same-3.ensures ∙ c.if-same-3.false,
       sym c.same-4.ensures ∙ c.if-same-4.false,
       sym c.same-5.ensures ∙ c.if-same-5.false,
       sym c.same-6.ensures ∙ c.if-same-6.true,
@@ -70,12 +62,9 @@ pub returns : goal.returns
 unfolding verb_of
 returns c =
     rw (
-      sym c.same.ensures
-          ∙ c.if-same.false,
-      sym c.same-2.ensures
-          ∙ c.if-same-2.false,
-      sym c.same-3.ensures
-          ∙ c.if-same-3.false,
+      sym c.same.ensures ∙ c.if-same.false,
+      sym c.same-2.ensures ∙ c.if-same-2.false,
+      sym c.same-3.ensures ∙ c.if-same-3.false,
       sym c.same-4.ensures ∙ c.if-same-4.false,
       sym c.same-5.ensures ∙ c.if-same-5.false,
       sym c.same-6.ensures ∙ c.if-same-6.false,

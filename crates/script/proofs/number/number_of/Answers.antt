@@ -1,21 +1,18 @@
 -- `script::number::number_of` meets its contract. The loop's invariant: the digits left, behind the value so far, spell the number.
 -- Assumes nothing.
 use mathlib.Core.Path.{◌≡◌, refl, sym, ap, ◌∙◌}
-use mathlib.Core.Bool.{true}
-use Prim.Native.Nat.{◌≤◌, ◌-◌, ◌+◌, ◌*◌}
+use Prim.Native.Nat.{◌-◌, ◌+◌, ◌*◌}
 use native.Mathlib.Omega.{arith}
-use lib.ListN.{length, get_or, drop}
-use borrow.Author.Rules.{rules}
-use borrow.Author.Tests.{not-true, not-false}
-use Rattle.script.specs.Number.{found, most_number, plain_start, all_digits, value_from}
-use Rattle.script.proofs.Numbers.{bad_digit, good_digit, no_start, no_digits, no_range, a-number, value-next, digits_end, value-end, is_digit, too_low, too_high, value-least}
+use lib.ListN.{get_or, drop}
+use Rattle.script.specs.Number.{found, value_from}
+use Rattle.script.proofs.Numbers.{bad_digit, good_digit, no_start, no_digits, no_range, a-number, value-next, digits_end, value-end, is_digit_lem, too_low, too_high, value-least}
 use Rattle.script.proofs.number.number_of.Goals as goal
 
 pub returns-then-not-plain_start : goal.returns-then-not-plain_start
-returns-then-not-plain_start c = sym (no_start c.args.s.now (sym c.plain_start.ensures ∙ not-true _ c.if-not-plain_start.true))
+returns-then-not-plain_start c = sym (no_start c.args.s.now (sym c.plain_start.ensures ∙ c.if-not-plain_start.true))
 
 pub loop-i-init : goal.loop-i-init
-loop-i-init c = (omega arith, omega arith, sym c.plain_start.ensures ∙ not-false _ c.if-not-plain_start.false, refl, refl)
+loop-i-init c = (omega arith, omega arith, sym c.plain_start.ensures ∙ c.if-not-plain_start.false, refl, refl)
 
 pub returns-then-b-lt48 : goal.returns-then-b-lt48
 returns-then-b-lt48 c =
@@ -43,7 +40,7 @@ loop-i-preserved c =
       omega arith,
       omega arith,
       l.invariant.2,
-      sym (good_digit s l.i (omega arith) (is_digit _ (omega arith) (omega arith))) ∙ l.invariant.3,
+      sym (good_digit s l.i (omega arith) (is_digit_lem _ (omega arith) (omega arith))) ∙ l.invariant.3,
       sym (value-next l.value s l.i (omega arith)) ∙ l.invariant.4,
     )
 

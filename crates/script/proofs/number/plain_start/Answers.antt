@@ -1,7 +1,6 @@
 -- `script::number::plain_start` meets its contract.
 -- Assumes nothing.
 use mathlib.Core.Path.{sym}
-use borrow.Author.Rules.{rules}
 use Rattle.script.proofs.Numbers.{plain-empty, plain-one, plain_more}
 use Rattle.script.proofs.number.plain_start.Goals as goal
 

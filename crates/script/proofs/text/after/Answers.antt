@@ -4,7 +4,6 @@ use mathlib.Core.Path.{sym, ◌∙◌}
 use Prim.Native.Nat.{◌+◌}
 use native.Mathlib.Omega.{arith}
 use lib.ListN.{drop_of_length-le}
-use borrow.Author.Rules.{rules}
 use Rattle.checks.proofs.Buffers.{part_to_end}
 use Rattle.script.proofs.Texts.{after-found, after-missing, length_before}
 use Rattle.script.proofs.text.after.Goals as goal

@@ -1,11 +1,9 @@
 -- `script::text::find` meets its contract. The loop's invariant: the place is as many bytes further than it is in what is left.
 -- Assumes nothing.
-use mathlib.Core.Path.{◌≡◌, ap}
+use mathlib.Core.Path.{◌≡◌}
 use Prim.Native.Nat.{◌≤◌, ◌-◌, ◌+◌}
-use native.Mathlib.Omega.{arith}
 use lib.ListN.{length, drop}
 use Rattle.script.specs.Text.{before}
-use Rattle.script.proofs.Texts.{before_here, before-later, before-end}
 use Rattle.script.proofs.text.find.Given as goal
 
 abbrev pub invariant-loop-i : goal.invariant-loop-i

@@ -1,6 +1,5 @@
 -- `script::text::part` meets its contract.
 -- Assumes nothing.
-use borrow.Author.Rules.{rules}
 use Rattle.script.proofs.Texts.{cut-none, cut_all, cut-some}
 use Rattle.script.proofs.text.part.Goals as goal
 

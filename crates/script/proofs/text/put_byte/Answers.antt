@@ -1,6 +1,5 @@
 -- `script::text::put_byte` meets its contract.
 -- Assumes nothing.
-use borrow.Author.Rules.{rules}
 use Rattle.script.proofs.Texts.{wrote_past}
 use Rattle.script.proofs.text.put_byte.Goals as goal
 

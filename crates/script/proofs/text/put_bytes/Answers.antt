@@ -2,11 +2,9 @@
 -- Assumes nothing.
 use mathlib.Core.Path.{◌≡◌, refl, ap, ◌∙◌}
 use mathlib.Core.List.{List}
-use Prim.Native.Nat.{ℕ, ◌+◌, ◌-◌, ◌≤◌, min}
+use Prim.Native.Nat.{ℕ, ◌+◌}
 use native.Mathlib.Omega.{arith}
-use lib.ListN.{length, get_or, set, take, length-set}
-use lib.Seq.{sets}
-use borrow.Author.Rules.{rules}
+use lib.ListN.{get_or, set, length-set}
 use Rattle.script.proofs.Texts.{sets-next, wrote-fitting}
 use Rattle.script.proofs.text.put_bytes.Goals as goal
 
@@ -17,7 +15,7 @@ pub loop-i-preserved : goal.loop-i-preserved
 loop-i-preserved c =
     let l = c.loop-i in
     let a = c.args in
-    let start = c.before.before.before.before.before.IsPlace-in.result in (
+    let start = c.place_in-start.result in (
       omega arith,
       l.invariant.1,
       l.invariant.2,
