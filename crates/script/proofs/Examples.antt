@@ -1,4 +1,4 @@
--- Computed: lines that are well_formed and lines that are not, answers, and texts cut into lines. They guard the definitions.
+-- Computed: lines that are well-formed and lines that are not, answers, and texts cut into lines. They guard the definitions.
 -- Assumes nothing.
 use mathlib.Core.Path.{◌≡◌, refl}
 use mathlib.Core.Bool.{true, false}

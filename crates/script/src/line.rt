@@ -171,7 +171,7 @@ fn parse_into(line: &[u8], buffer: &mut [u8]) -> Parsed
     }
 }
 
-// Reads a line. Where it is well_formed, the buffer then begins with its bytes; else the buffer is as it was.
+// Reads a line. Where it is well-formed, the buffer then begins with its bytes; else the buffer is as it was.
 pub fn parse_line(line: &[u8], buffer: &mut [u8; 1024]) -> Parsed
     ensures line { line_in result buffer.new ≡ spec.parse line.now }
     ensures answer { result ≡ parsed_of (spec.parse line.now) }
