@@ -6,7 +6,6 @@ use Prim.Native.Nat.{ℕ, ◌-◌}
 use native.Mathlib.Omega.{arith}
 use lib.Bits.{bit_xor}
 use lib.ListN.{length, get_or}
-use borrow.Author.Rules.{rules}
 use Rattle.word.specs.Bytes.{bytes_from, window, words_of}
 use Rattle.word.proofs.Bytes.{Bytes}
 use Rattle.permutation.specs.Permutation.{permute}
@@ -18,14 +17,13 @@ use Rattle.prf_short.proofs.output.Goals as goal
 pub returns : goal.returns
 unfolding prf_short ended
 returns c =
-    let begun = c.before.before.before.before.before.before.before.before.before.before in
-    let a = begun.args in
+    let a = c.args in
     let key : List ℕ = a.key.now in
     let message : List ℕ = a.message.now in
     let t : ℕ = length a.out.now in
-    let pre = begun.requires in
-    let bytes : Bytes key = λ i. omega (arith, begun.shared_slice_known-1.given i) in
-    let bytes' : Bytes message = λ i. omega (arith, begun.shared_slice_known-2-1.given i) in
+    let pre = c.requires in
+    let bytes : Bytes key = λ i. omega (arith, c.type_inv.key i) in
+    let bytes' : Bytes message = λ i. omega (arith, c.type_inv.message i) in
     let s : List ℕ = permute 12 (words_of 5 (start key message t)) in
     let p : List ℕ = c.permute-s.result in
     let x0 : ℕ = c.word_of_bytes-k0.result in
@@ -40,10 +38,10 @@ returns c =
     c.start_word.ensures in
     let permuted : p ≡ s = c.permute-s.ensures
     ∙ ap (permute 12) (rw (first, k0, k1, m0, m1) (started key message t bytes bytes' pre.0 pre.1 pre.2)) in
-    let copied : c.copy_bytes.new.1.1.0
+    let copied : c.copy_bytes.new.out
     ≡ bytes_from (40 - t) t (get_or p 0 0 ∷ get_or p 1 0 ∷ get_or p 2 0 ∷ bit_xor (get_or p 3 0) x0 ∷ bit_xor (get_or p 4 0) x1
     ∷ []) = c.copy_bytes.ensures in
-    let read : c.copy_bytes.new.1.1.0
+    let read : c.copy_bytes.new.out
     ≡ bytes_from (40 - t) t (get_or s 0 0 ∷ get_or s 1 0 ∷ get_or s 2 0 ∷ bit_xor (get_or s 3 0) (window 0 key 0) ∷ bit_xor (get_or s 4 0) (window 0 key 1)
     ∷ []) = copied ∙ rw (permuted, k0, k1) in
     read ∙ ap (bytes_from (40 - t) t) (masked s key (twelve-state (words_of 5 (start key message t))).five pre.0)

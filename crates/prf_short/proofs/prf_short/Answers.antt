@@ -2,24 +2,12 @@
 -- Assumes nothing.
 use mathlib.Core.Path.{◌≡◌, sym, ap, ◌∙◌}
 use mathlib.Core.Bool.{false}
-use Prim.Native.Nat.{◌≤◌}
 use native.Mathlib.Omega.{arith}
 use lib.ListN.{length}
-use borrow.Author.Rules.{rules}
 use Rattle.prf_short.specs.Short.{prf_short}
 use Rattle.prf_short.specs.Call.{wrong_output}
 use Rattle.prf_short.proofs.Refusals.{lent_is, short_2, short_5, short_6, short-done}
 use Rattle.prf_short.proofs.prf_short.Goals as goal
-
--- where nothing is wrong with the output's length, it is the buffer's
-fits : (c : goal.Else-wrong_output) → wrong_output (length c.args.out.now)
-    c.args.length ≡ false
-fits c = sym c.wrong_output.ensures ∙ c.if-wrong_output.false
-
-well_lent : (c : goal.Else-wrong_output)
-    → (length c.args.out.now ≡ c.args.length)
-    × (c.args.length ≤ 16)
-well_lent c = lent_is _ _ (fits c)
 
 pub returns-then-key-ne-KEY_LENGTH : goal.returns-then-key-ne-KEY_LENGTH
 returns-then-key-ne-KEY_LENGTH c =
@@ -36,14 +24,15 @@ returns-then-wrong_output c =
     let given = short_6 _ _ _ _ c.if-key-ne-KEY_LENGTH.false c.if-message-gt-LONGEST_MESSAGE.false (sym c.wrong_output.ensures ∙ c.if-wrong_output.true) in
     record { answer = sym given.0; after = sym given.1 }
 
+-- where nothing is wrong with the output's length, it is the buffer's
 pub output-requires : goal.output-requires
 output-requires c =
-    let fits = well_lent c.before in
+    let fits = lent_is (length c.args.out.now) c.args.length (sym c.wrong_output.ensures ∙ c.if-wrong_output.false) in
     (c.if-key-ne-KEY_LENGTH.false, c.if-message-gt-LONGEST_MESSAGE.false, omega (arith, fits.0, fits.1))
 
 pub returns : goal.returns
 returns c =
-    let passed = c.before.before.before.before in
-    let t-bytes = well_lent passed in
-    let given = short-done _ _ _ _ passed.if-key-ne-KEY_LENGTH.false passed.if-message-gt-LONGEST_MESSAGE.false (fits passed) in
-    record { answer = sym given.0; after = c.output.ensures ∙ ap (prf_short _ _) t-bytes.0 ∙ sym given.1 }
+    let passed : wrong_output (length c.args.out.now) c.args.length ≡ false = sym c.wrong_output.ensures ∙ c.if-wrong_output.false in
+    let fits = lent_is (length c.args.out.now) c.args.length passed in
+    let given = short-done _ _ _ _ c.if-key-ne-KEY_LENGTH.false c.if-message-gt-LONGEST_MESSAGE.false passed in
+    record { answer = sym given.0; after = c.output.ensures ∙ ap (prf_short _ _) fits.0 ∙ sym given.1 }
