@@ -15,7 +15,7 @@ use Rattle.checks.proofs.Checks.{Pass, passed-done}
 use Rattle.calls.specs.Answer.{refused, counted}
 use Rattle.calls.specs.Call.{Call, Draw, Check, Close, Response, Step, step, refuse, events, final}
 use Rattle.calls.specs.Checks.{Standing, ticket_checks, draw_own, draw_checks}
-use Rattle.calls.specs.Law.{Closes, CheckCloses}
+use Rattle.calls.specs.Law.{CheckCloses}
 use Rattle.calls.specs.Lists.{names}
 use Rattle.calls.specs.Machine.{Entry, Machine, empty_machine, runs_of, output_of, after_draw, after_close, after_check, place_of, entry_of, standing_of, put}
 use Rattle.calls.specs.Machine.{draw_machine, close_machine, machine}
@@ -24,7 +24,7 @@ use Rattle.calls.proofs.Checks.{is_open, is-closed}
 use Rattle.calls.proofs.Entries.{number, Good, Sound, standing_for, entry-is, standing-is}
 use Rattle.calls.proofs.Outcomes.{OpenTicket, AcceptedCheck, accepted-check}
 use Rattle.calls.proofs.Sound.{put-here, sound_empty, sound-step, sound-final}
-use Rattle.calls.proofs.Apart.{act_of, on_entry, Match, call_same, call-other}
+use Rattle.calls.proofs.Apart.{act_of, on_entry, call_same, call-other}
 
 -- ---- a check is a draw of no bytes, and a close
 

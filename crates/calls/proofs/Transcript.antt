@@ -9,7 +9,7 @@ use Rattle.word.specs.Bytes.{weight, byte_at, bytes_from, xor_word, xor_at, xor_
 use Rattle.permutation.specs.Permutation.{sbox, add_constant, at_every_place, substitute, mix, diffuse, round, permute}
 use Rattle.mode.specs.declared.Mode.TheVariants.{Mac, Hash}
 use Rattle.mode.specs.declared.Named.TheVariants.{Is}
-use Rattle.mode.specs.Mode.{row, named}
+use Rattle.mode.specs.Mode.{named}
 use Rattle.sponge.specs.Sponge.{ceiling, initial, start, pad, cut, blocks, flip_if, absorb_blocks, absorb_message, squeeze_blocks, squeeze_bytes, output, one_shot, runs_feeding, runs_ended}
 use Rattle.calls.specs.Answer.{refused, counted}
 use Rattle.checks.specs.Buffers.{written}

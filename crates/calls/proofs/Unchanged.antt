@@ -1,6 +1,6 @@
 -- A refused call changes nothing: what holds of any machine that answers behind checks, and the plain machine.
 -- Assumes nothing.
-use mathlib.Core.Bool.{true, false, true≢false}
+use mathlib.Core.Bool.{false, true≢false}
 use mathlib.Core.Path.{◌≡◌, refl}
 use mathlib.Core.List.{List, []}
 use Prim.Native.Nat.{ℕ}
@@ -12,10 +12,10 @@ use Rattle.mode.specs.Mode.{named}
 use Rattle.checks.specs.Checks.{OneCheck, checked}
 use Rattle.checks.proofs.Checks.{checked-each}
 use Rattle.calls.specs.Answer.{accepted}
-use Rattle.calls.specs.Call.{Call, Open, Feed, Draw, Check, Close, Sum, Step, refuse}
+use Rattle.calls.specs.Call.{Open, Feed, Draw, Check, Close, Sum, Step, refuse}
 use Rattle.calls.specs.Checks.{most_open, open_checks, feed_checks, draw_checks, check_checks, ticket_checks}
 use Rattle.calls.specs.Law.{RefusedKeeps}
-use Rattle.calls.specs.Machine.{Machine, empty_machine, open_count, standing_of, admit}
+use Rattle.calls.specs.Machine.{empty_machine, open_count, standing_of, admit}
 use Rattle.calls.specs.Machine.{open_machine, feed_machine, draw_machine, check_machine, close_machine, sum_machine, machine}
 
 -- a call that is refused leaves s
