@@ -12,11 +12,8 @@ use Rattle.sponge.specs.Record.{absorbed}
 use Rattle.sponge.proofs.Calls.{absorbed-none, absorbed_append}
 use Rattle.vectors.proofs.absorb_in_pieces.Goals as goal
 
-fed-fits : (c : goal.Start) → c.args.s.fed < 2 ^ 64
-fed-fits c = search rules
-
 pub loop-done-init : goal.loop-done-init
-loop-done-init c = (search rules, search rules, sym (absorbed-none c.args.s (fed-fits c.before)))
+loop-done-init c = (search rules, search rules, sym (absorbed-none c.args.s (search rules)))
 
 pub overflow_add-end : goal.overflow_add-end
 overflow_add-end c = omega (arith, c.shorter.ensures)

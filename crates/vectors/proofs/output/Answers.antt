@@ -9,7 +9,7 @@ pub returns : goal.returns
 returns c =
     let a = c.args in
     rw (
-      c.squeeze.ensures.1,
+      c.squeeze.ensures.written,
       c.finish-ended.ensures,
       c.absorb_in_pieces-fed.ensures,
       c.fresh-fresh.ensures,
