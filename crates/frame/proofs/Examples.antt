@@ -6,7 +6,6 @@ use Rattle.word.specs.Word.{bit, word, number, column, rotr}
 use Rattle.word.specs.Bytes.{weight, byte_at, bytes_from, xor_word, xor_at, xor_from, from_bytes, to_bytes, words_of, zeros_to}
 use Rattle.permutation.specs.Permutation.{add_constant, sbox, at_every_place, substitute, mix, diffuse, round, permute}
 use Rattle.checks.specs.Buffers.{written}
-use Rattle.mode.specs.Mode.{row}
 use Rattle.sponge.specs.Sponge.{ceiling, initial, start, pad, cut, blocks, flip_if, absorb_blocks, absorb_message, squeeze_blocks, squeeze_bytes, output, one_shot}
 use Rattle.frame.specs.Frame.{tag_for, frame_checks, frame_runs, seal_after}
 

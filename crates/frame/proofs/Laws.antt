@@ -14,7 +14,6 @@ use Rattle.checks.specs.Buffers.{written}
 use Rattle.checks.specs.Equality.{same}
 use Rattle.checks.proofs.Checks.{Pass, Nonzero, refused-by-number, zero-passes, passed-done}
 use Rattle.mode.specs.declared.Mode.TheVariants.{Mac}
-use Rattle.mode.specs.Mode.{row}
 use Rattle.sponge.specs.declared.record.Record.{Record}
 use Rattle.sponge.specs.Sponge.{ceiling, start, runs_ended}
 use Rattle.sponge.specs.Record.{fresh, absorbed, finished, after_drawing, next_bytes, squeezed, tag_matches}
