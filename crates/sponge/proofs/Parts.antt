@@ -8,7 +8,7 @@ use Rattle.word.specs.Bytes.{bytes_from, byte_at, xor_from}
 use Rattle.word.proofs.Bytes.{length-bytes_from}
 use Rattle.sponge.specs.declared.record.Record.{Record}
 use Rattle.mode.specs.Mode.{Row, row}
-use Rattle.sponge.specs.Record.{sum64, with_fed, after_run, run_if, in_words, feed_bytes, absorbed, ready, drawn_bytes, after_drawing}
+use Rattle.sponge.specs.Record.{sum64, with_core, with_fed, after_run, run_if, in_words, feed_bytes, absorbed, ready, drawn_bytes, after_drawing}
 use Rattle.sponge.specs.Parts.{filled, after_feed, used}
 use Rattle.sponge.proofs.Places.{suc-less, next_place, first-place, block-end}
 use Rattle.sponge.proofs.Feeding.{feed_bytes_append, feed_bytes_core, feed-part}
@@ -25,6 +25,12 @@ run_if-mode w false r = refl
 pub filled-mode : (w : Row) (p : ℕ) (bs : List ℕ) (r : Record) → (filled w p bs r).mode ≡ r.mode
 unfolding filled in_words
 filled-mode w p bs r = run_if-mode w (eqb (p + length bs) w.feed_rate) (in_words (xor_from p bs) r)
+
+-- where the block is full, a run of the row's inner rounds follows
+pub filled_full : (w : Row) (p : ℕ) (bs : List ℕ) (r : Record) → p + length bs ≡ w.feed_rate
+    → filled w p bs r ≡ after_run w.inner_rounds (with_core (xor_from p bs r.words) r.runs r)
+unfolding filled run_if in_words
+filled_full w p bs r full = rw (eq-eqb (p + length bs) w.feed_rate full)
 
 -- bytes that stay in the block of number n, whose place is p
 pub feed-filled : (w : Row) (bs : List ℕ) (b n p : ℕ) (r : Record) → n % w.feed_rate ≡ p → p + suc (length bs) ≤ w.feed_rate

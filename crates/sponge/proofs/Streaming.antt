@@ -7,7 +7,7 @@ use Rattle.checks.specs.Equality.{same}
 use Rattle.mode.specs.declared.Mode.{Mode}
 use Rattle.sponge.specs.declared.record.Record.{Record}
 use Rattle.mode.specs.Mode.{Row, row}
-use Rattle.sponge.specs.Sponge.{ceiling, start, absorb_message, output, one_shot, runs_feeding, runs_ended}
+use Rattle.sponge.specs.Sponge.{start, absorb_message, output, one_shot, runs_feeding, runs_ended}
 use Rattle.sponge.specs.Record.{sum64, with_core, with_fed, with_drawn, with_feeding, after_run, feed_bytes, end_feeding, drawn_bytes, after_drawing, fresh, absorbed}
 use Rattle.sponge.specs.Record.{finished, next_bytes, squeezed, block, tag_matches}
 use Rattle.checks.specs.Joined.{joined}

@@ -116,6 +116,7 @@ impl Record {
     }
 
     // Bytes go to the block from a place on, and a run of the inner rounds follows where they fill it.
+    #[tactic(auto, using(crate::proofs::Parts::filled_full))]
     fn fill(self, place: usize, bytes: &[u8]) -> Record
         requires { place + length bytes.now ≤ (row self.mode).feed_rate }
         ensures { result ≡ filled (row self.mode) place bytes.now self }

@@ -1,7 +1,7 @@
 -- `sponge::Record::absorb` meets its contract. The loop's invariant: the bytes that are left, fed to the record as it is, give what all of them give to the
 -- first record; and as long as some are left, the place is that of the next.
 -- Assumes nothing.
-use Rattle.std.proofs.Common.{◌≡◌, ℕ, ◌+◌, ◌-◌, ◌%◌, ◌<◌, ◌≤◌, length, take, drop, sym, refl, ap, ◌∙◌, ap₂, add-zero, mod-lt, arith, length-drop, drop_of_length-le, length-take, rules}
+use Rattle.std.proofs.Common.{◌≡◌, ℕ, ◌+◌, ◌-◌, ◌%◌, ◌<◌, length, take, drop, sym, refl, ap, ◌∙◌, ap₂, add-zero, mod-lt, arith, length-drop, drop_of_length-le, length-take}
 use Rattle.mode.specs.declared.Mode.{Mode}
 use Rattle.sponge.specs.declared.record.Record.{Record}
 use Rattle.mode.specs.Mode.{row}

@@ -1,15 +1,9 @@
 -- `sponge::Record::absorb` meets its contract. The loop's invariant: the bytes that are left, fed to the record as it is, give what all of them give to the
 -- first record; and as long as some are left, the place is that of the next.
 -- Assumes nothing.
-use Rattle.std.proofs.Common.{◌≡◌, ℕ, ◌+◌, ◌-◌, ◌%◌, ◌<◌, ◌≤◌, length, take, drop, sym, refl, ap, ◌∙◌, ap₂, add-zero, mod-lt, arith, length-drop, drop_of_length-le, length-take, rules}
-use Rattle.mode.specs.declared.Mode.{Mode}
-use Rattle.sponge.specs.declared.record.Record.{Record}
+use Rattle.std.proofs.Common.{◌≡◌, ◌+◌, ◌-◌, ◌%◌, ◌<◌, ◌≤◌, length, drop}
 use Rattle.mode.specs.Mode.{row}
 use Rattle.sponge.specs.Record.{feed_bytes}
-use Rattle.sponge.specs.Parts.{filled, after_feed}
-use Rattle.mode.proofs.Modes.{rates}
-use Rattle.sponge.proofs.Places.{block-end}
-use Rattle.sponge.proofs.Parts.{filled-mode, feed-next, absorbed-fed}
 use Rattle.sponge.proofs.record.Record.absorb.Given as goal
 
 abbrev pub invariant-loop-done : goal.invariant-loop-done

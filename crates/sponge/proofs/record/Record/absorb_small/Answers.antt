@@ -1,6 +1,6 @@
 -- `sponge::Record::absorb_small` meets its contract.
 -- Assumes nothing.
-use Rattle.std.proofs.Common.{ℕ, List, length, sym, ap, ◌∙◌, mod-lt, arith, rules, leb-true}
+use Rattle.std.proofs.Common.{ℕ, List, length, sym, ap, ◌∙◌, mod-lt, arith}
 use Rattle.mode.proofs.Modes.{rates}
 use Rattle.sponge.specs.declared.record.Record.{Record}
 use Rattle.sponge.specs.Parts.{after_feed}
@@ -16,7 +16,7 @@ pub xor_few-requires : goal.xor_few-requires
 xor_few-requires c =
     let a = c.args in
     let place = c.feed_place-place.ensures in
-    (omega (arith, place, mod-lt a.self.fed (rates a.self.mode).feeds, (rates a.self.mode).feeds-inside), c.if-bytes-le8.true)
+    (omega (arith, place, mod-lt a.self.fed (rates a.self.mode).feeds, (rates a.self.mode).feeds-inside), omega arith)
 
 pub returns-then-bytes-le8 : goal.returns-then-bytes-le8
 returns-then-bytes-le8 c =

@@ -1,6 +1,6 @@
 -- `sponge::Record::after_feed` meets its contract.
 -- Assumes nothing.
-use Rattle.std.proofs.Common.{ℕ, ap, rules}
+use Rattle.std.proofs.Common.{ℕ, ap}
 use Rattle.sponge.specs.Record.{sum64, with_fed, with_core}
 use Rattle.sponge.specs.Parts.{after_feed}
 use Rattle.sponge.proofs.record.Record.after_feed.Goals as goal

@@ -1,6 +1,6 @@
 -- `sponge::Record::end_feeding` meets its contract.
 -- Assumes nothing.
-use Rattle.std.proofs.Common.{◌≡◌, ℕ, ◌%◌, refl, ap, ◌∙◌, rules}
+use Rattle.std.proofs.Common.{◌≡◌, ℕ, ◌%◌, refl, ap, ◌∙◌}
 use Rattle.word.specs.Bytes.{xor_at}
 use Rattle.mode.specs.Mode.{row}
 use Rattle.sponge.specs.Record.{after_run, in_words, end_feeding}

@@ -1,6 +1,6 @@
 -- `sponge::Record::finish` meets its contract.
 -- Assumes nothing.
-use Rattle.std.proofs.Common.{Bool, cond, sym, ap, ◌∙◌, rules}
+use Rattle.std.proofs.Common.{Bool, cond, sym, ap, ◌∙◌}
 use Rattle.mode.specs.Mode.{row}
 use Rattle.sponge.specs.Record.{end_feeding, finished}
 use Rattle.sponge.proofs.record.Record.finish.Goals as goal

@@ -1,6 +1,6 @@
 -- `sponge::Record::fresh` meets its contract.
 -- Assumes nothing.
-use Rattle.std.proofs.Common.{◌^◌, ◌<◌, sym, refl, arith, length-take-le, rules}
+use Rattle.std.proofs.Common.{◌^◌, ◌<◌, sym, refl, arith, length-take-le}
 use Rattle.word.proofs.Bytes.{Bytes}
 use Rattle.word.proofs.Lists.{take_min}
 use Rattle.mode.specs.Mode.{row}

@@ -1,6 +1,6 @@
 -- `sponge::Record::run` meets its contract.
 -- Assumes nothing.
-use Rattle.std.proofs.Common.{ℕ, List, ap₂, rules}
+use Rattle.std.proofs.Common.{ℕ, List, ap₂}
 use Rattle.sponge.specs.Record.{sum64, with_core, after_run}
 use Rattle.sponge.proofs.record.Record.run.Goals as goal
 

@@ -1,6 +1,6 @@
 -- `sponge::record::absorb::feed_place` meets its contract.
 -- Assumes nothing.
-use Rattle.std.proofs.Common.{arith, rules}
+use Rattle.std.proofs.Common.{arith}
 use Rattle.mode.proofs.Modes.{rates}
 use Rattle.sponge.proofs.record.absorb.feed_place.Goals as goal
 

@@ -1,6 +1,6 @@
 -- `sponge::record::absorb::flip` meets its contract.
 -- Assumes nothing.
-use Rattle.std.proofs.Common.{◌≡◌, true, false, sym, ◌∙◌, rules}
+use Rattle.std.proofs.Common.{◌≡◌, true, false, sym, ◌∙◌}
 use Rattle.mode.specs.Mode.{row}
 use Rattle.sponge.specs.Sponge.{flip_if}
 use Rattle.sponge.proofs.record.absorb.flip.Goals as goal

@@ -1,6 +1,6 @@
 -- `sponge::record::absorb::xor_few` meets its contract.
 -- Assumes nothing.
-use Rattle.std.proofs.Common.{◌≡◌, ℕ, List, [], ◌∷◌, length, refl, ap, ◌∙◌, arith, rules}
+use Rattle.std.proofs.Common.{◌≡◌, ℕ, List, [], ◌∷◌, length, refl, ap, ◌∙◌, arith}
 use Rattle.word.specs.Bytes.{xor_from, to_bytes}
 use Rattle.word.proofs.Bytes.{Bytes}
 use Rattle.word.proofs.WordAt.{xor_few_lem}

@@ -1,6 +1,6 @@
 -- `sponge::record::absorb::xor_part` meets its contract: both ways give the same.
 -- Assumes nothing.
-use Rattle.std.proofs.Common.{◌≡◌, ℕ, ◌*◌, ◌/◌, List, length, take, sym, ◌∙◌, ap₂, arith, take_all, rules}
+use Rattle.std.proofs.Common.{◌≡◌, ℕ, ◌*◌, ◌/◌, List, length, take, sym, ◌∙◌, ap₂, arith, take_all}
 use Rattle.word.specs.Bytes.{xor_from}
 use Rattle.sponge.proofs.record.absorb.xor_part.Goals as goal
 

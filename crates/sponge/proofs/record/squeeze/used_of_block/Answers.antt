@@ -1,6 +1,6 @@
 -- `sponge::record::squeeze::used_of_block` meets its contract.
 -- Assumes nothing.
-use Rattle.std.proofs.Common.{◌-◌, mod-lt, arith, rules, eq-eqb, ne_eqb}
+use Rattle.std.proofs.Common.{◌-◌, mod-lt, arith, eq-eqb, ne_eqb}
 use Rattle.sponge.specs.Parts.{used}
 use Rattle.mode.proofs.Modes.{rates}
 use Rattle.sponge.proofs.record.squeeze.used_of_block.Goals as goal
