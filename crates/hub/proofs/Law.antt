@@ -1,6 +1,6 @@
 -- The laws of specs/Law.antt: what holds of the plain machine's responses holds of the hub's, which are the same.
 -- Assumes nothing.
-use Rattle.std.proofs.Common.{◌≡◌, ℕ, [], sym, refl, ap, ◌∙◌, true≢false, arith}
+use Rattle.std.proofs.Common.{ℕ, [], sym, refl, ap, ◌∙◌, true≢false, arith}
 use Rattle.mode.specs.declared.Named.{Named}
 use Rattle.mode.specs.declared.Named.TheVariants.{Is, NoMode}
 use Rattle.mode.specs.Mode.{named}

@@ -2,7 +2,6 @@
 pub mod Locating
 pub mod RecordCalls
 pub mod Calls
-pub mod InPlace
 pub mod Model
 pub mod Tickets
 pub mod Represents

@@ -1,6 +1,6 @@
 -- `hub::draw` meets its contract.
 -- Assumes nothing.
-use Rattle.std.proofs.Common.{sym, ap, ◌∙◌, rules}
+use Rattle.std.proofs.Common.{sym, ap, ◌∙◌}
 use Rattle.sponge.specs.declared.record.Record.{Record}
 use Rattle.calls.specs.Call.{Step}
 use Rattle.hub.specs.declared.Hub.{Hub}
@@ -12,15 +12,17 @@ use Rattle.hub.proofs.Calls.{replied, draw-is}
 use Rattle.hub.proofs.draw.Goals as goal
 
 pub returns : goal.returns
-returns c = let both = (let a = c.args in
+returns c =
+    let a = c.args in
     let h : Hub = a.hub in
     let l : Located = c.locate-located.result in
     let worked : Located → Step Record = λ m. draw_record m.refusal a.buffer.now a.place a.count (record_at m.place h) in
-    let located = c.locate-located.ensures.0 in
-    let is = draw-is a.ticket h a.buffer.now a.place a.count in (
-      ap (λ (w : Worked). replied l.place w h) c.draw_record-drawn.ensures.0
+    let located = c.locate-located.ensures.located in
+    let is = draw-is a.ticket h a.buffer.now a.place a.count in
+    record {
+      reply = ap (λ (w : Worked). replied l.place w h) c.draw_record-drawn.ensures.worked
           ∙ ap (λ (m : Located). replied m.place (worked_of (worked m)) h) located
-          ∙ sym (ap reply_of is),
-      c.draw_record-drawn.ensures.1 ∙ ap (λ (m : Located). (worked m).response.buffer) located
-          ∙ sym (ap (λ (s : Step Hub). s.response.buffer) is),
-    )) in record { reply = both.0; written = both.1 }
+          ∙ sym (ap reply_of is);
+      written = c.draw_record-drawn.ensures.written ∙ ap (λ (m : Located). (worked m).response.buffer) located
+          ∙ sym (ap (λ (s : Step Hub). s.response.buffer) is);
+    }

@@ -1,7 +1,6 @@
 -- `hub::sum` meets its contract. The loop's invariant: the sum so far and the runs still to come make the whole sum, modulo 2 ^ 64.
 -- Assumes nothing.
-use Rattle.std.proofs.Common.{◌≡◌, ℕ, ◌+◌, ◌-◌, ◌%◌, ◌^◌, ◌<◌, ◌≤◌, length, get_or, drop, ap, ◌∙◌, arith, rules}
-use Rattle.sponge.specs.declared.record.Record.{Record}
+use Rattle.std.proofs.Common.{◌≡◌, ◌+◌, ◌%◌, ◌^◌, ap, ◌∙◌, arith, rules}
 use Rattle.sponge.specs.Record.{sum64}
 use Rattle.calls.specs.declared.Answer.{Answer}
 use Rattle.calls.specs.Answer.{summed}
@@ -10,17 +9,10 @@ use Rattle.calls.proofs.Walks.{total-next, total-end}
 use Rattle.hub.specs.Hub.{no_record, sum_hub}
 use Rattle.hub.proofs.Locating.{unmapped}
 use Rattle.hub.proofs.sum.Goals as goal
-
-abbrev runs : Record → ℕ
-runs r = r.runs
+use Rattle.hub.proofs.sum.Invariants.{runs}
 
 pub loop-i-init : goal.loop-i-init
 loop-i-init c = (search (rules, unmapped), omega arith, search rules, omega arith)
-
--- the runs of the record that is looked at
-seen : (c : goal.After-runs)
-    → c.runs.result ≡ (get_or c.args.hub.records c.loop-i.i no_record).runs
-seen c = c.runs.ensures
 
 pub loop-i-preserved : goal.loop-i-preserved
 loop-i-preserved c =
@@ -28,8 +20,8 @@ loop-i-preserved c =
     let i = c.loop-i.i in (
       omega arith,
       omega arith,
-      omega (arith, c.wrapping_add_u64-total.ensures),
-      omega (arith, c.wrapping_add_u64-total.ensures, seen c.before, total-next rs i no_record (omega arith) runs),
+      omega (arith, c.wrapping_add_u64-total.ensures.value),
+      omega (arith, c.wrapping_add_u64-total.ensures.value, c.runs.ensures, total-next rs i no_record (omega arith) runs),
     )
 
 pub returns : goal.returns

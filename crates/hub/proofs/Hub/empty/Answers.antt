@@ -1,6 +1,6 @@
 -- `hub::Hub::empty` meets its contract.
 -- Assumes nothing.
-use Rattle.std.proofs.Common.{replicate, ap, rules}
+use Rattle.std.proofs.Common.{replicate, ap}
 use Rattle.sponge.specs.declared.record.Record.{Record}
 use Rattle.hub.specs.Hub.{empty_hub}
 use Rattle.hub.proofs.Hub.empty.Goals as goal

@@ -1,12 +1,13 @@
 -- `hub::places::find` meets its contract. The loop's invariant: what is left of the search finds the place as many places further.
 -- Assumes nothing.
-use Rattle.std.proofs.Common.{◌≡◌, ℕ, ◌+◌, ◌-◌, ◌≤◌, ◌≢◌, length, get_or, drop, arith, rules}
+use Rattle.std.proofs.Common.{◌≡◌, ℕ, ◌+◌, ◌-◌, ◌≤◌, length, drop}
 use Rattle.sponge.specs.declared.record.Record.{Record}
 use Rattle.calls.specs.Keyed.{find}
-use Rattle.calls.proofs.Walks.{find-here, find-next, find-end}
-use Rattle.hub.specs.Hub.{no_record, place_of}
-use Rattle.hub.proofs.Locating.{unmapped}
+use Rattle.hub.specs.Hub.{place_of}
 use Rattle.hub.proofs.places.find.Given as goal
+
+abbrev pub number : Record → ℕ
+number r = r.ticket
 
 abbrev pub invariant-loop-i : goal.invariant-loop-i
 invariant-loop-i l =

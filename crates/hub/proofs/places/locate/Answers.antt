@@ -1,18 +1,10 @@
 -- `hub::places::locate` meets its contract.
 -- Assumes nothing.
-use Rattle.std.proofs.Common.{◌≡◌, ℕ, ◌<◌, true, ◌≢◌, length, sym, ap, ◌∙◌, arith, rules}
+use Rattle.std.proofs.Common.{◌≡◌, ℕ, ◌<◌, length, sym, ap, ◌∙◌, arith, rules}
 use Rattle.hub.specs.declared.places.Located.{Located}
 use Rattle.hub.specs.Hub.{standing_of}
 use Rattle.hub.proofs.Locating.{unmapped, absent_past, absent-within, issued_no, issued-zero, issued-yes, open_no, open-yes, located-never, located-closed, located-open}
 use Rattle.hub.proofs.places.locate.Goals as goal
-
-long : (c : goal.After-find-place) → length c.args.hub.records ≡ 16
-long c = search (rules, unmapped)
-
-was-issued : (c : goal.Else-hub-ticket) → (standing_of c.args.ticket c.args.hub).issued ≡ true
-was-issued c =
-    let positive : c.args.ticket ≢ 0 = λ z. omega (arith, c.if-ticket-eq0.false) in
-    issued-yes _ _ positive (omega arith)
 
 -- a refusal has place 0
 at_zero : (l : Located) (n : ℕ) → l ≡ record { refusal = n; place = 0 } → l.place < 16
@@ -30,11 +22,17 @@ returns-then-hub-ticket c = record { located = c.refused-then-hub-ticket.ensures
 
 pub returns-then-place-ge-PLACES : goal.returns-then-place-ge-PLACES
 returns-then-place-ge-PLACES c =
-    let none = absent_past _ _ _ c.find-place.ensures (omega (arith, long c.before.before)) in
-    record { located = c.refused-then-place-ge-PLACES.ensures ∙ sym (located-closed _ _ (was-issued c.before.before.before) (open_no _ _ none)); within = at_zero _ _ c.refused-then-place-ge-PLACES.ensures }
+    let a = c.args in
+    let long : length a.hub.records ≡ 16 = search (rules, unmapped) in
+    let none = absent_past _ _ _ c.find-place.ensures (omega arith) in
+    let issued = issued-yes a.ticket a.hub (λ z. omega arith) (omega arith) in
+    record { located = c.refused-then-place-ge-PLACES.ensures ∙ sym (located-closed _ _ issued (open_no _ _ none)); within = at_zero _ _ c.refused-then-place-ge-PLACES.ensures }
 
 pub returns : goal.returns
 returns c =
-    let one = absent-within _ _ _ c.find-place.ensures (omega (arith, long c.before)) in
-    let e = located-open _ _ (was-issued c.before.before) (open-yes _ _ one) in
-    record { located = ap (λ (p : ℕ). record { refusal = 0; place = p }) c.find-place.ensures ∙ sym e; within = omega (arith, c.if-place-ge-PLACES.false) }
+    let a = c.args in
+    let long : length a.hub.records ≡ 16 = search (rules, unmapped) in
+    let one = absent-within _ _ _ c.find-place.ensures (omega arith) in
+    let issued = issued-yes a.ticket a.hub (λ z. omega arith) (omega arith) in
+    let e = located-open _ _ issued (open-yes _ _ one) in
+    record { located = ap (λ (p : ℕ). record { refusal = 0; place = p }) c.find-place.ensures ∙ sym e; within = omega arith }

@@ -1,6 +1,6 @@
 -- `hub::records::close_record` meets its contract.
 -- Assumes nothing.
-use Rattle.std.proofs.Common.{sym, ap, ◌∙◌, rules}
+use Rattle.std.proofs.Common.{sym, ap, ◌∙◌}
 use Rattle.calls.specs.Answer.{counted}
 use Rattle.hub.specs.Records.{worked_of, vacating}
 use Rattle.hub.proofs.RecordCalls.{close-found, close-done}

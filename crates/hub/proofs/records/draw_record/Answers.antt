@@ -1,6 +1,6 @@
 -- `hub::records::draw_record` meets its contract.
 -- Assumes nothing.
-use Rattle.std.proofs.Common.{◌≡◌, ℕ, ◌+◌, ◌≤◌, false, ltb, length, sym, ap, ◌∙◌, ap₂, arith, rules, ltb-false}
+use Rattle.std.proofs.Common.{◌≡◌, ℕ, ◌+◌, Bool, ltb, length, sym, ap, ◌∙◌, ap₂, arith, ltb-false}
 use native.Mathlib.Nat.{add-sub_cancel_left}
 use Rattle.mode.specs.declared.Mode.{Mode}
 use Rattle.mode.specs.Mode.{row}
@@ -14,42 +14,10 @@ use Rattle.hub.specs.Records.{worked_of, counting}
 use Rattle.hub.proofs.RecordCalls.{draw-found, draw_3, draw_17, draw-done}
 use Rattle.hub.proofs.records.draw_record.Goals as goal
 
--- what the checks find
-room : (c : goal.Else-exceeds) → ltb (length c.args.buffer.now)
-    (c.args.place + c.args.count) ≡ false
-room c = sym c.exceeds.ensures ∙ c.if-exceeds.false
-
-inside : (c : goal.Else-exceeds) → c.args.place + c.args.count
-    ≤ length c.args.buffer.now
-inside c = ltb-false _ _ (room c)
-
-exceeded : (c : goal.After-exceeds-2) → c.exceeds-2.result
-    ≡ ltb (row c.args.before.mode).most_drawn
-    (c.args.before.drawn
-    + c.args.count)
-exceeded c =
-    c.exceeds-2.ensures
-    ∙ ap₂ (λ (most drawn : ℕ). ltb most (drawn + c.args.count))
-    (c.most_drawn.ensures ∙ ap (λ (mode : Mode). (row mode).most_drawn) c.mode-mode.ensures) c.drawn.ensures
-
--- what was drawn: as many bytes as the part that was lent has
-drawn-record : (c : goal.After-squeeze) → c.squeeze.result
-    ≡ squeezed c.args.count
-    (finished c.args.before)
-drawn-record c = rw (
-  c.squeeze.ensures.0,
-  c.finish-ended.ensures,
-  part_length _ _ _ (inside c.before.before.before.before.before.before.before.before),
-)
-
-drawn-bytes : (c : goal.After-squeeze) → c.squeeze.new.1.0
-    ≡ next_bytes c.args.count
-    (finished c.args.before)
-drawn-bytes c = rw (
-  c.squeeze.ensures.1,
-  c.finish-ended.ensures,
-  part_length _ _ _ (inside c.before.before.before.before.before.before.before.before),
-)
+-- what the check of the output's end finds, of the record's mode and of what it has drawn
+exceeded : (r : Record) (count : ℕ) (x : Bool) (most drawn : ℕ) (mode : Mode) → x ≡ ltb most (drawn + count) → most ≡ (row mode).most_drawn → mode ≡ r.mode → drawn ≡ r.drawn
+    → x ≡ ltb (row r.mode).most_drawn (r.drawn + count)
+exceeded r count x most drawn mode e m is d = e ∙ ap₂ (λ (k n : ℕ). ltb k (n + count)) (m ∙ ap (λ (o : Mode). (row o).most_drawn) is) d
 
 pub returns-then-refusal-ne0 : goal.returns-then-refusal-ne0
 returns-then-refusal-ne0 c =
@@ -63,22 +31,28 @@ returns-then-exceeds c =
 
 pub returns-then-exceeds-2 : goal.returns-then-exceeds-2
 returns-then-exceeds-2 c =
-    let e = sym (draw_17 _ _ _ _ _ c.if-refusal-ne0.false
-    (room c.before.before.before.before.before.before) (sym (exceeded c.before.before) ∙ c.if-exceeds-2.true)) in
+    let many = sym (exceeded c.args.before _ _ _ _ _ c.exceeds-2.ensures c.most_drawn.ensures c.mode-mode.ensures c.drawn.ensures) ∙ c.if-exceeds-2.true in
+    let e = sym (draw_17 _ _ _ _ _ c.if-refusal-ne0.false (sym c.exceeds.ensures ∙ c.if-exceeds.false) many) in
     record { worked = c.refused-then-exceeds-2.ensures ∙ ap worked_of e; written = ap (λ (s : Step Record). s.response.buffer) e }
 
 pub overflow_add-end : goal.overflow_add-end
-overflow_add-end c = omega (arith, inside c.before.before.before.before.before.before)
+overflow_add-end c = omega (arith, ltb-false _ _ (sym c.exceeds.ensures ∙ c.if-exceeds.false))
 
 pub slice_bounds-squeeze-end : goal.slice_bounds-squeeze-end
-slice_bounds-squeeze-end c = inside c.before.before.before.before.before.before
+slice_bounds-squeeze-end c = ltb-false _ _ (sym c.exceeds.ensures ∙ c.if-exceeds.false)
 
 pub returns : goal.returns
-returns c = let both = (let few = sym (exceeded c.before.before.before.before.before.before.before) ∙ c.if-exceeds-2.false in
-    let e = sym (draw-done _ _ _ _ _ c.if-refusal-ne0.false
-    (room c.before.before.before.before.before.before.before.before.before.before.before) few) in
-    let drawn = drawn-bytes c.before.before.before in
-    let long = ap length drawn ∙ length-next_bytes _ _ ∙ sym (add-sub_cancel_left _ _) in (
-      c.counted.ensures ∙ ap counting (drawn-record c.before.before.before) ∙ ap worked_of e,
-      part-written _ _ _ _ long ∙ ap (written c.args.buffer.now c.args.place) drawn ∙ ap (λ (s : Step Record). s.response.buffer) e,
-    )) in record { worked = both.0; written = both.1 }
+returns c =
+    let a = c.args in
+    let room = sym c.exceeds.ensures ∙ c.if-exceeds.false in
+    let few = sym (exceeded a.before _ _ _ _ _ c.exceeds-2.ensures c.most_drawn.ensures c.mode-mode.ensures c.drawn.ensures) ∙ c.if-exceeds-2.false in
+    let e = sym (draw-done _ _ _ _ _ c.if-refusal-ne0.false room few) in
+    -- what was drawn: as many bytes as the part that was lent has
+    let part = part_length _ _ _ (ltb-false _ _ room) in
+    let drawn-record : c.squeeze.result ≡ squeezed a.count (finished a.before) = rw (c.squeeze.ensures.after, c.finish-ended.ensures, part) in
+    let drawn-bytes : c.squeeze.new.out ≡ next_bytes a.count (finished a.before) = rw (c.squeeze.ensures.written, c.finish-ended.ensures, part) in
+    let long = ap length drawn-bytes ∙ length-next_bytes _ _ ∙ sym (add-sub_cancel_left _ _) in
+    record {
+      worked = c.counted.ensures ∙ ap counting drawn-record ∙ ap worked_of e;
+      written = part-written _ _ _ _ long ∙ ap (written a.buffer.now a.place) drawn-bytes ∙ ap (λ (s : Step Record). s.response.buffer) e;
+    }

@@ -1,6 +1,6 @@
 -- `hub::records::feed_small` meets its contract.
 -- Assumes nothing.
-use Rattle.std.proofs.Common.{ap, ◌∙◌, rules}
+use Rattle.std.proofs.Common.{ap, ◌∙◌}
 use Rattle.hub.specs.Records.{counting}
 use Rattle.hub.proofs.RecordCalls.{feed-refused, feed-done}
 use Rattle.hub.proofs.records.feed_small.Goals as goal

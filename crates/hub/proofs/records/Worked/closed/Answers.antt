@@ -1,6 +1,6 @@
 -- `hub::records::Worked::closed` meets its contract.
 -- Assumes nothing.
-use Rattle.std.proofs.Common.{ap, rules}
+use Rattle.std.proofs.Common.{ap}
 use Rattle.sponge.specs.declared.record.Record.{Record}
 use Rattle.hub.proofs.records.Worked.closed.Goals as goal
 

@@ -1,6 +1,6 @@
 -- `hub::records::Worked::refused` meets its contract.
 -- Assumes nothing.
-use Rattle.std.proofs.Common.{ap, rules}
+use Rattle.std.proofs.Common.{ap}
 use Rattle.calls.specs.declared.Answer.{Answer}
 use Rattle.hub.proofs.records.Worked.refused.Goals as goal
 
