@@ -1,15 +1,9 @@
 -- `vectors::absorb_in_pieces` meets its contract. The loop's invariant: the record is the first one, fed the first bytes.
 -- Assumes nothing.
-use mathlib.Core.Path.{◌≡◌, sym, ap, ap₂, ◌∙◌}
-use mathlib.Core.List.{List}
-use Prim.Native.Nat.{ℕ, ◌+◌, ◌-◌, ◌≤◌, ◌^◌, ◌<◌}
-use native.Mathlib.Omega.{arith}
-use borrow.Author.Rules.{rules}
-use lib.ListN.{length, take, drop}
-use lib.Seq.{take-add, take_all}
-use Rattle.sponge.specs.declared.record.Record.{Record}
+use mathlib.Core.Path.{◌≡◌}
+use Prim.Native.Nat.{◌-◌, ◌≤◌}
+use lib.ListN.{length, take}
 use Rattle.sponge.specs.Record.{absorbed}
-use Rattle.sponge.proofs.Calls.{absorbed-none, absorbed_append}
 use Rattle.vectors.proofs.absorb_in_pieces.Given as goal
 
 abbrev pub invariant-loop-done : goal.invariant-loop-done

@@ -1,10 +1,9 @@
 -- `vectors::counting` meets its contract. The loop's invariant: the first bytes count up.
 -- Assumes nothing.
 use mathlib.Core.Path.{◌≡◌, refl, sym, ap, ◌∙◌}
-use Prim.Native.Nat.{ℕ, ◌-◌, ◌≤◌}
+use Prim.Native.Nat.{ℕ}
 use native.Mathlib.Omega.{arith}
-use borrow.Author.Rules.{rules}
-use lib.ListN.{length, take, length-set, length-replicate}
+use lib.ListN.{length-set, length-replicate}
 use lib.Seq.{take_all}
 use Rattle.vectors.specs.Messages.{counting_from}
 use Rattle.vectors.proofs.Messages.{counted_next}

@@ -3,7 +3,6 @@
 use mathlib.Core.Path.{sym}
 use lib.Seq.{length-take-le}
 use Rattle.script.proofs.Texts.{wrote-inside}
-use borrow.Author.Rules.{rules}
 use Rattle.vectors.proofs.main.Goals as goal
 
 pub slice_bounds-write_all-end : goal.slice_bounds-write_all-end

@@ -5,7 +5,6 @@ use native.Mathlib.Omega.{arith}
 use borrow.Author.Tests.{lt-ltb, le-ltb}
 use Rattle.word.proofs.Lists.{get_d_past}
 use Rattle.vectors.specs.Messages.{longer, length_of}
-use borrow.Author.Rules.{rules}
 use Rattle.vectors.proofs.nth_length.Goals as goal
 
 pub returns-then-i-lt130 : goal.returns-then-i-lt130

@@ -2,7 +2,6 @@
 -- Assumes nothing.
 use lib.ListN.{length}
 use Rattle.sponge.proofs.Streaming.{calls-all-bytes}
-use borrow.Author.Rules.{rules}
 use Rattle.vectors.proofs.output.Goals as goal
 
 pub returns : goal.returns

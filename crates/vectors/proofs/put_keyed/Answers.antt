@@ -1,6 +1,5 @@
 -- `vectors::put_keyed` meets its contract.
 -- Assumes nothing.
-use borrow.Author.Rules.{rules}
 use Rattle.script.proofs.Texts.{wrote-more}
 use Rattle.vectors.specs.Lines.{keyed_sections}
 use Rattle.vectors.proofs.put_keyed.Goals as goal

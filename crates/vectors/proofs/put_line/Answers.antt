@@ -1,6 +1,5 @@
 -- `vectors::put_line` meets its contract.
 -- Assumes nothing.
-use borrow.Author.Rules.{rules}
 use Rattle.script.proofs.Texts.{wrote-more}
 use Rattle.vectors.specs.Lines.{line}
 use Rattle.vectors.proofs.put_line.Goals as goal

@@ -1,15 +1,9 @@
 -- `vectors::put_mode` meets its contract. The loop's invariant: the first i lines are written behind the heading.
 -- Assumes nothing.
-use mathlib.Core.Path.{◌≡◌, ◌∙◌}
 use Prim.Native.Nat.{ℕ, ◌-◌, ◌≤◌}
-use native.Mathlib.Omega.{arith}
-use borrow.Author.Rules.{rules}
 use Rattle.script.specs.Text.{Wrote}
-use Rattle.script.proofs.Texts.{wrote-length, wrote-more}
 use Rattle.vectors.specs.Messages.{length_of}
-use Rattle.vectors.specs.Lines.{lines, mode_line, mode_section}
-use Rattle.vectors.proofs.Messages.{length_most}
-use Rattle.vectors.proofs.Lines.{wrote-no_line, wrote-next}
+use Rattle.vectors.specs.Lines.{lines, mode_line}
 use Rattle.vectors.proofs.put_mode.Given as goal
 
 abbrev pub invariant-loop-i : goal.invariant-loop-i

@@ -15,5 +15,5 @@ returns c =
     let a = c.args in
     let part : length c.output.new.out ≡ a.count = c.output.auto.out ∙ length-take-le _ _ (omega arith) in
     let made : c.output.new.out ≡ one_shot (row a.mode) (take 16 a.bytes.now) (take a.n a.bytes.now) a.count =
-        rw (sym c.output.auto.out ∙ part) at c.output.ensures in
+    rw (sym c.output.auto.out ∙ part) at c.output.ensures in
     rw (take_at c.output.new.out _ _ part, made) at c.put_line.ensures

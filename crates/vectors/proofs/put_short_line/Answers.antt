@@ -16,6 +16,6 @@ returns c =
     let a = c.args in
     let part : length c.prf_short.new.out ≡ a.t = c.prf_short.auto.out ∙ length-take-le _ _ (omega arith) in
     let made : c.prf_short.new.out ≡ prf_short (take 16 a.bytes.now) (take a.m a.bytes.now) a.t =
-        short-made a.bytes.now _ _ a.m a.t c.requires (sym c.prf_short.auto.out ∙ part) c.prf_short.ensures.after in
+    short-made a.bytes.now _ _ a.m a.t c.requires (sym c.prf_short.auto.out ∙ part) c.prf_short.ensures.after in
     wrote-more (wrote-more c.put_decimal-after_number.ensures c.put_byte-line_at.ensures)
     (rw (take_at c.prf_short.new.out _ _ part, made) at c.put_line.ensures)

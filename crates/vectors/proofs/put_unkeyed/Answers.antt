@@ -2,7 +2,6 @@
 -- Assumes nothing.
 use Rattle.script.proofs.Texts.{wrote-more}
 use Rattle.vectors.specs.Lines.{unkeyed_sections}
-use borrow.Author.Rules.{rules}
 use Rattle.vectors.proofs.put_unkeyed.Goals as goal
 
 pub returns : goal.returns

@@ -2,7 +2,6 @@
 -- Assumes nothing.
 use mathlib.Core.Path.{refl}
 use native.Mathlib.Omega.{arith}
-use borrow.Author.Rules.{rules}
 use Rattle.word.proofs.Lists.{get_d_past}
 use Rattle.vectors.specs.Messages.{tagged, tagged_length}
 use Rattle.vectors.proofs.tagged_length.Goals as goal
