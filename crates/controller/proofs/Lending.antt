@@ -1,16 +1,15 @@
 -- A hub that lies in a local is lent to a call that alters it there: what the proof of the lender does at such a call, as one step.
--- feeds, closes    the hub's cell is at the front of the context, at h; the call of `in_place::feed` or `in_place::close` is made; and the cell is back, at the
--- hub that the
--- call by value gives. The answer's relation and the hub's are in hand. Before a feed the token of the bytes' lifetime and what the bytes own follow the
---                      cell, and after it too.
+--     feeds, closes    the hub's cell is at the front of the context, at h; the call of `in_place::feed` or `in_place::close` is made; and the cell is back, at the
+--                      hub that the call by value gives. The answer's relation and the hub's are in hand. Before a feed the token of the bytes' lifetime and what
+--                      the bytes own follow the cell, and after it too.
 -- Assumes `Logic`.
 use mathlib.Core.Path.{◌≡◌, refl, sym, subst}
 use Prim.Native.Nat.{ℕ, ◌<◌, ◌^◌}
 use mathlib.Core.List.{List, [], ◌∷◌}
 use lib.ListN.{length}
 use seplogic.Ra.Ura.{Ura}
-use seplogic.Ra.TreeShare.{full_share}
-use mir.Syntax.{named, w32, Opd as Operand, Place, Body as Code, seq, call}
+use base.Fraction.{full_share}
+use mir.Syntax.{named, w8, w32, Opd as Operand, Place, Body as Code, seq, call}
 use mir.Val.{Val, vint, vptr}
 use base.Logic.{SProp, ent, sep, id⊢}
 use base.Fml.{GName, Lft, Share, Fml, ftrue, fat, flft, flent}
@@ -26,11 +25,12 @@ use sound.WpLaws.{FmC}
 use denote.RattleType.{owns}
 use denote.Laws.{Is}
 use denote.Memory.{mem, cell_at}
-use denote.Plain.{uint_Makes}
+use denote.Plain.{uint_Makes, uint_row_laws}
 use denote.Builtin.{u8, u32}
 use denote.Ref.{Bor, MutBor, MutRef}
 use denote.Slice.{slice_val, ShrSlice, shr_slice_copy}
 use denote.Steps.{owned, nothing}
+use denote.Struct.Laws as LL
 use denote.Triple.Statement.{Contract, Triple}
 use denote.Triple.Call.{calls_at}
 use denote.Triple.Clauses.{lasts}
@@ -43,11 +43,17 @@ use Rattle.hub.specs.Hub.{feed_hub, close_hub}
 use Rattle.calls.specs.contracts.Answer as S
 use Rattle.hub.specs.contracts.Hub as T
 use Rattle.hub.proofs.Hub.TheLaws as T'
-use Rattle.hub.proofs.InPlace.{hub_val, IsHub}
 use Rattle.hub.specs.contracts.in_place.feed as feed
 use Rattle.hub.proofs.in_place.feed.Symbol.{name as #feed}
 use Rattle.hub.specs.contracts.in_place.close as close
 use Rattle.hub.proofs.in_place.close.Symbol.{name as #close}
+
+-- the machine value of a hub, and the relation of the two
+abbrev pub hub_val : Hub → Val
+hub_val = LL.val T.the_type T'.the_laws
+
+abbrev pub IsHub : Hub → Type 0
+IsHub t = Is T.the_row t (hub_val t ∷ [])
 
 -- the reference to a hub at (b, 0), under the name δ
 abbrev pub ref : ℕ → GName → Hub → MutBor Hub
@@ -76,7 +82,7 @@ module _ {M : Type 1} {𝓤 : Ura M} (𝓛 : Logic 𝓤) (at_mem : Memory → SP
   abbrev pub Feed : Contract 𝓤
   Feed = triple_of 𝓛 feed.signature (feed.spec 𝓛 at_mem run)
 
-  abbrev pub at-feed : Lft → Share → Hub → ℕ → MutBor (List ℕ) → ℕ → ℕ → GName → Feed.Ghost
+  abbrev pub at-feed : Lft → Share → Hub → ℕ → Bor (List ℕ) → ℕ → ℕ → GName → Feed.Ghost
   at-feed κ q h n s b ν δ = (((ν ∷ [], (κ, tt)), (full_share, (q, tt)), tt, (ref b δ h, (n, (s, tt))), (vptr b 0 ∷ [], (vint w32 n ∷ [], (bytes_val s ∷ [], tt)))), tt)
 
   abbrev pub Close : Contract 𝓤
@@ -91,7 +97,7 @@ module _ {M : Type 1} {𝓤 : Ura M} (𝓛 : Logic 𝓤) (at_mem : Memory → SP
         → ent 𝓤 (⋆ 𝓛 ((‵ (flft (ν ∷ []) full_share) ⊛ (‵ (flft κ q) ⊛ ‵ ftrue)) ∷ ‵ (borrow b ν δ h) ∷ ‵ (Bytes κ s) ∷ [])) (sep 𝓤 (Feed.pre (at-feed κ q h n s b ν δ)) (sem 𝓛 (Bytes κ s)))
     feed-asked κ q s =
         qed 𝓛 ((‵ (flft (ν ∷ []) full_share) ⊛ (‵ (flft κ q) ⊛ ‵ ftrue)) ∷ ‵ (borrow b ν δ h) ∷ ‵ (Bytes κ s) ∷ []) ∵
-        move ! (2 ∷ []) $ use1 𝓛 (‵ (Bytes κ s) ⊛ ‵ (Bytes κ s)) ((shr_slice_copy 𝓛 (named 0) κ u8).twice s (bytes_val s ∷ [])) $ split ! $ nothing ! $ move ! (1 ∷ 0 ∷ []) $ fjoin ! $
+        move ! (2 ∷ []) $ use1 𝓛 (‵ (Bytes κ s) ⊛ ‵ (Bytes κ s)) ((shr_slice_copy 𝓛 (named 0) κ u8 (uint_row_laws w8)).twice s (bytes_val s ∷ [])) $ split ! $ nothing ! $ move ! (1 ∷ 0 ∷ []) $ fjoin ! $
         owned ! u32 (Is u32) (uint_Makes 𝓛 w32) n _ (refl, fits) $ fjoin ! $ move ! (3 ∷ 0 ∷ []) $ fjoin ! $ move ! (2 ∷ 0 ∷ []) $
         use2 𝓛 (raw (Feed.pre (at-feed κ q h n s b ν δ)))
         (qed 𝓛 ((‵ (flft (ν ∷ []) full_share) ⊛ (‵ (flft κ q) ⊛ ‵ ftrue)) ∷ ‵ (owns (MutRef (named 0) (ν ∷ []) T.the_row ∷ u32 ∷ ShrSlice (named 1) κ u8 ∷ []) (ref b δ h, (n, (s, tt))) (vptr b 0 ∷ [], (vint w32 n ∷ [], (bytes_val s ∷ [], tt)))) ∷ []) ∵ join ! $ frame ! $ done !) $
@@ -106,7 +112,7 @@ module _ {M : Type 1} {𝓤 : Ura M} {𝓛 : Logic 𝓤} {K : Type 0} {Γ : List
   open 𝓛 use {H}
 
   pub feeds : K → FmC 𝓤 H 𝓛.laws C → (at_mem : Memory → SProp 𝓤) (run : Routine → Fun 𝓤) → Triple 𝓤 (C #feed) (Feed 𝓛 at_mem run)
-      → (κ : Lft) (q : Share) (h : Hub) → IsHub h → (n : ℕ) → n < 2 ^ 32 → (s : MutBor (List ℕ)) (b : ℕ)
+      → (κ : Lft) (q : Share) (h : Hub) → IsHub h → (n : ℕ) → n < 2 ^ 32 → (s : Bor (List ℕ)) (b : ℕ)
       → ((ν : ℕ) (δ : GName) → Opds K 𝓛 (raw ((Feed 𝓛 at_mem run).pre (at-feed 𝓛 at_mem run κ q h n s b ν δ)) ∷ ‵ (Bytes κ s) ∷ ‵ (lender b ν δ) ∷ Γ) E xs (vptr b 0 ∷ vint w32 n ∷ bytes_val s ∷ []))
       → ((v : Val) → IsHub (feed_hub n s.now h).after → Is S.the_row (feed_hub n s.now h).response.answer (v ∷ [])
       → Seq K 𝓛 (held 𝓤 b (feed_hub n s.now h).after ∷ (‵ (flft κ q) ⊛ ‵ ftrue) ∷ ‵ (Bytes κ s) ∷ Γ) (lands C Λ E d v rest q'))
@@ -121,7 +127,7 @@ module _ {M : Type 1} {𝓤 : Ura M} {𝓛 : Logic 𝓤} {K : Type 0} {Γ : List
       (λ r ws. (r ≡ (feed_hub n s.now h).response.answer) × (ws.0 ≡ (feed_hub n s.now h).after))
       (λ r ws. both_said 𝓤 (r ≡ (feed_hub n s.now h).response.answer) (ws.0 ≡ (feed_hub n s.now h).after)) (id⊢ 𝓤 _) (λ r ws e is'.
       -- [the last value; the tokens; the bytes; the lender's part; …]
-      fsplit t $ move t (1 ∷ []) $ drop t $ move t (1 ∷ []) $ split t $ move t (0 ∷ 4 ∷ 2 ∷ []) $ returned t tt T.the_type T'.the_laws ws.0 b 0 (λ is₁.
+      fsplit t $ move t (1 ∷ []) $ drop t $ fsplit t $ move t (1 ∷ []) $ drop t $ move t (1 ∷ []) $ split t $ move t (0 ∷ 4 ∷ 2 ∷ []) $ returned t tt T.the_type T'.the_laws ws.0 b 0 (λ is₁.
       use1 𝓛 (held 𝓤 b ws.0) (𝓛.laws.raw_at full_share T'.mir b 0 (hub_val ws.0)) $
       subst (λ (g : Hub). Seq K 𝓛 (held 𝓤 b g ∷ (‵ (flft κ q) ⊛ ‵ ftrue) ∷ ‵ (Bytes κ s) ∷ Γ) (lands C Λ E d v rest q')) (sym e.1)
       (k v (subst IsHub e.1 is₁) (subst (λ (a : Answer). Is S.the_row a (v ∷ [])) e.0 is'))))))
@@ -141,7 +147,7 @@ module _ {M : Type 1} {𝓤 : Ura M} {𝓛 : Logic 𝓤} {K : Type 0} {Γ : List
       (λ r ws. (r ≡ (close_hub n h).response.answer) × (ws.0 ≡ (close_hub n h).after))
       (λ r ws. both_said 𝓤 (r ≡ (close_hub n h).response.answer) (ws.0 ≡ (close_hub n h).after)) (id⊢ 𝓤 _) (λ r ws e is'.
       -- [the last value; the token; the lender's part; …]
-      fsplit t $ move t (1 ∷ []) $ drop t $ move t (1 ∷ []) $ split t $ move t (1 ∷ []) $ drop t $ move t (0 ∷ 2 ∷ 1 ∷ []) $ returned t tt T.the_type T'.the_laws ws.0 b 0 (λ is₁.
+      fsplit t $ move t (1 ∷ []) $ drop t $ fsplit t $ move t (1 ∷ []) $ drop t $ move t (1 ∷ []) $ split t $ move t (1 ∷ []) $ drop t $ move t (0 ∷ 2 ∷ 1 ∷ []) $ returned t tt T.the_type T'.the_laws ws.0 b 0 (λ is₁.
       use1 𝓛 (held 𝓤 b ws.0) (𝓛.laws.raw_at full_share T'.mir b 0 (hub_val ws.0)) $
       subst (λ (g : Hub). Seq K 𝓛 (held 𝓤 b g ∷ Γ) (lands C Λ E d v rest q')) (sym e.1)
       (k v (subst IsHub e.1 is₁) (subst (λ (a : Answer). Is S.the_row a (v ∷ [])) e.0 is'))))))
