@@ -8,7 +8,7 @@ use Rattle.listing.proofs.draw.Goals as goal
 
 pub returns : goal.returns
 unfolding on_hub
-returns c = let both = ((
-  lists_call c.draw-reply.ensures.0 c.draw-reply.ensures.1 (wrote-more c.put_draw-after_call.ensures c.put_response-next.ensures),
-  c.draw-reply.ensures.1,
-)) in record { lists = both.0; written = both.1 }
+returns c = record {
+  lists = lists_call c.draw-reply.ensures.reply c.draw-reply.ensures.written (wrote-more c.put_draw-after_call.ensures c.put_response-next.ensures);
+  written = c.draw-reply.ensures.written;
+}

@@ -9,5 +9,5 @@ use Rattle.listing.proofs.open.Goals as goal
 pub returns : goal.returns
 unfolding on_hub
 returns c =
-    lists_call c.before.before.before.before.before.before.before.before.before.before.«open».ensures (open-leaves _ _ _ _)
+    lists_call c.open-reply.ensures (open-leaves _ _ _ _)
     (wrote-more c.put_open-after_call.ensures c.put_response-next.ensures)
