@@ -1,4 +1,4 @@
--- A hub that lies in a local is lent to a call that alters it there: what the proof of the lender does at such a call, as one step.
+-- A hub that lies in a local is lent to a call that alters it there: what a proof of the lender that walks the code does at such a call, as one step.
 --     feeds, closes    the hub's cell is at the front of the context, at h; the call of `in_place::feed` or `in_place::close` is made; and the cell is back, at the
 --                      hub that the call by value gives. The answer's relation and the hub's are in hand. Before a feed the token of the bytes' lifetime and what
 --                      the bytes own follow the cell, and after it too.

@@ -1,5 +1,5 @@
-// The hub of the controller's main loop: one hub that stays in its memory and is lent, call after call. `feed` and `close` take it as a `&mut Hub`. A function that
-// holds a hub and lends it is proved by hand; `feed_often` does so behind plain parameters, so that its callers need no such proof.
+// The hub of the controller's main loop: one hub that stays in its memory and is lent, call after call. `feed` and `close` take it as a `&mut Hub`. `feed_often` holds
+// a hub and lends it behind plain parameters: to its callers the hub goes in and comes out by value.
 #![tactic(auto)]
 
 ghost use Rattle.std.specs.Prelude.{◌≡◌, replicate};
