@@ -4,7 +4,6 @@
 --     machines D L xs  the machine values of the elements xs.        got_val, put_val     that of one element, and those with one element put in another's place
 --     Are D L n xs vs  the relation of an array of n elements.        got-is, put_is     what it says: the relation of one element, and the
 --                      relation of the array with one put in another's place
---     are_of_field, field_of_are     `Are` from what a struct's relation says of a field that is such an array, and back
 --     with_field D L d k u     d's machine value, with u in the place of field k's, as a store of the field leaves it
 --     bytes_fit n s tt lt      a machine word counts the bytes before element k of n, of s bytes each
 --     reaches      three statements: the index times the size goes into a local m, the array's address into a, and their sum, the element's address, into c
@@ -153,30 +152,6 @@ module _ (D : Declared) (L : LL.Laws D) where
       each-put (Struct (shape D)) (LL.tuple_val D L) (map D.to xs) k (D.to x) g (each-told (Struct (shape D)) (LL.tuple_val D L) (LL.tuple_Tells D L) (map D.to xs) p.0 p.1.1),
     ),
   )
-
-  -- a struct's relation speaks of the elements of a field, and `Are` of their tuples
-  mapped : (xs : List D.D) → map (LL.val D L) xs ≡ machines xs
-  mapped [] = refl
-  mapped (x ∷ xs) = ap {B = List _} (λ vs. LL.val D L x ∷ vs) (mapped xs)
-
-  each_tuple : (xs : List D.D) (us : List Val) → shadow (arrays.each D.D (row D).own_val xs us) → shadow (arrays.each (Struct (shape D)).Denot (Struct (shape D)).own_val (map D.to xs) us)
-  each_tuple [] [] s = tt
-  each_tuple [] (u ∷ us) s = absurd s
-  each_tuple (x ∷ xs) [] s = absurd s
-  each_tuple (x ∷ xs) (u ∷ us) s = (s.0, each_tuple xs us s.1)
-
-  each_element : (xs : List D.D) (us : List Val) → shadow (arrays.each (Struct (shape D)).Denot (Struct (shape D)).own_val (map D.to xs) us) → shadow (arrays.each D.D (row D).own_val xs us)
-  each_element [] [] s = tt
-  each_element [] (u ∷ us) s = absurd s
-  each_element (x ∷ xs) [] s = absurd s
-  each_element (x ∷ xs) (u ∷ us) s = (s.0, each_element xs us s.1)
-
-  pub are_of_field : {n : ℕ} (xs : List D.D) → Is (Array (row D) n) xs (array_val (map (LL.val D L) xs) ∷ []) → Are n xs (array_val (machines xs) ∷ [])
-  are_of_field {n} xs p = subst (λ (us : List Val). Are n xs (array_val us ∷ [])) (mapped xs) (p.0, ((p.1.0.0, length-map xs D.to ∙ p.1.0.1), each_tuple xs p.0 p.1.1))
-
-  pub field_of_are : {n : ℕ} (xs : List D.D) → Are n xs (array_val (machines xs) ∷ []) → Is (Array (row D) n) xs (array_val (map (LL.val D L) xs) ∷ [])
-  field_of_are {n} xs p =
-      subst (λ (us : List Val). Is (Array (row D) n) xs (array_val us ∷ [])) (sym (mapped xs)) (p.0, ((p.1.0.0, sym (length-map xs D.to) ∙ p.1.0.1), each_element xs p.0 p.1.1))
 
 module _ {M : Type 1} {𝓤 : Ura M} {𝓛 : Logic 𝓤} {K : Type 0} where
   pub slot : K → (D : Declared) (L : LL.Laws D) {i : Item 𝓤} {q : Share} {n b o : ℕ} {back : Val → Item 𝓤} (xs : List D.D) {vs : List Val} (k : ℕ) (d : D.D) → Are D L n xs vs → k < n
