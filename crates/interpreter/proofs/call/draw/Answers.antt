@@ -9,4 +9,4 @@ unfolding on_hub
 returns c =
     let d = c.draw.ensures in
     let e = c.clear.ensures in
-    record { reply = rw e at d.0; buffer = rw e at d.1 }
+    record { reply = rw e at d.reply; buffer = rw e at d.written }

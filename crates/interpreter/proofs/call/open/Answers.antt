@@ -17,7 +17,7 @@ returns-then-bytes-eq0 c = opened-bare _ _ _ _ c.if-mode-ne-TAG_MODE.false c.if-
 
 -- a byte is a number of 32 bits
 pub overflow_cast-length : goal.overflow_cast-length
-overflow_cast-length c = let s = c.args.bytes.now in record { fits = omega (arith, c.shared_slice_known-2-1.given (length s - 1)) }
+overflow_cast-length c = let s = c.args.bytes.now in record { fits = omega (arith, c.type_inv.bytes (length s - 1)) }
 
 pub slice_bounds-open-end : goal.slice_bounds-open-end
 slice_bounds-open-end c =
@@ -27,4 +27,4 @@ slice_bounds-open-end c =
 pub returns : goal.returns
 returns c =
     let a = c.args in
-    opened-tagged a.mode a.bytes.now a.before _ c.before.before.before.before.if1.false c.open-2.ensures
+    opened-tagged a.mode a.bytes.now a.before _ c.if-mode-ne-TAG_MODE.false c.open-2.ensures

@@ -39,7 +39,7 @@ pub shape_of-out-after-loop-next : goal.shape_of-out-after-loop-next
 shape_of-out-after-loop-next c = omega (arith, c.loop-next.invariant.room, c.requires.1)
 
 pub returns-after-loop-next : goal.returns-after-loop-next
-returns-after-loop-next c = let both = (filling_done _ _ _ _ _ _ _ _ _ _ c.loop-next.invariant c.loop-next-test.false) in record { progress = both.0; line = both.1; out = both.2 }
+returns-after-loop-next c = let both = (filling_done _ _ _ _ _ _ _ _ _ _ c.loop-next.invariant c.loop-next-test.false) in record { progress = both.0; line = both.1.0; out = both.1.1 }
 
 pub shape_of-line-then-out-size-lt-LONGEST_ANSWER : goal.shape_of-line-then-out-size-lt-LONGEST_ANSWER
 shape_of-line-then-out-size-lt-LONGEST_ANSWER c = omega (arith, c.loop-next.invariant.buffer, c.requires.0)
@@ -49,4 +49,4 @@ shape_of-out-then-out-size-lt-LONGEST_ANSWER c = omega (arith, c.loop-next.invar
 
 pub returns-then-out-size-lt-LONGEST_ANSWER : goal.returns-then-out-size-lt-LONGEST_ANSWER
 returns-then-out-size-lt-LONGEST_ANSWER c = let both = (filling_full _ _ _ _ _ _ _ _ _ _ c.loop-next.invariant c.loop-next-test.true
-    (omega (arith, c.if-out-size-lt-LONGEST_ANSWER.true, c.loop-next.invariant.room))) in record { progress = both.0; line = both.1; out = both.2 }
+    (omega (arith, c.if-out-size-lt-LONGEST_ANSWER.true, c.loop-next.invariant.room))) in record { progress = both.0; line = both.1.0; out = both.1.1 }

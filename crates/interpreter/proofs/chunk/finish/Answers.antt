@@ -2,13 +2,18 @@
 -- Assumes nothing.
 use mathlib.Core.Path.{sym, ◌∙◌}
 use Rattle.interpreter.proofs.Ending.{finish-complete, finish-supplied}
-use borrow.Author.Rules.{rules}
 use Rattle.interpreter.proofs.chunk.finish.Goals as goal
 
 pub returns-then-complete : goal.returns-then-complete
-returns-then-complete c = let both = (finish-complete _ _ _ (sym c.complete.ensures ∙ c.if-complete.true)) in record { stepped = both.0; line = both.1; out = both.2 }
+returns-then-complete c =
+    let a = c.args in
+    let both = finish-complete a.session a.line.now a.out.now (sym c.complete.ensures ∙ c.if-complete.true) in
+    record { stepped = both.0; line = both.1.0; out = both.1.1 }
 
 pub returns : goal.returns
-returns c = let both = (let e = c.fill-last.ensures in
-    finish-supplied _ _ _ _ _ _ (sym c.complete.ensures
-    ∙ c.if-complete.false) e.0 e.1.0 e.1.1) in record { stepped = both.0; line = both.1; out = both.2 }
+returns c =
+    let a = c.args in
+    let f = c.fill-last in
+    let both = finish-supplied a.session a.line.now a.out.now f.result f.new.line f.new.out
+    (sym c.complete.ensures ∙ c.if-complete.false) f.ensures.progress f.ensures.line f.ensures.out in
+    record { stepped = both.0; line = both.1.0; out = both.1.1 }
