@@ -5,13 +5,13 @@ use borrow.Author.Rules.{rules}
 use Rattle.day.proofs.make_step.Goals as goal
 
 pub returns-in-Begin : goal.returns-in-Begin
-returns-in-Begin c = begins c.enum_told-1.given.1 c.begin.ensures.0 c.begin.ensures.1
+returns-in-Begin c = begins c.in-Begin.is c.begin.ensures.hub c.begin.ensures.text
 
 pub returns-in-Make : goal.returns-in-Make
-returns-in-Make c = makes c.step-1.given.1 c.make.ensures
+returns-in-Make c = makes c.in-Make.is c.make.ensures
 
 pub returns-in-Turns : goal.returns-in-Turns
-returns-in-Turns c = turns c.step-in-Turns-1.given.1 c.turns.ensures
+returns-in-Turns c = turns c.in-Turns.is c.turns.ensures
 
 pub returns-in-FeedOften : goal.returns-in-FeedOften
-returns-in-FeedOften c = as_step c.step-in-FeedOften-1.given.1 c.often.ensures
+returns-in-FeedOften c = as_step c.in-FeedOften.is c.often.ensures
