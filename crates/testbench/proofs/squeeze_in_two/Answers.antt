@@ -14,28 +14,26 @@ use Rattle.testbench.proofs.Halves.{second-half, both_halves}
 use borrow.Author.Rules.{rules}
 use Rattle.testbench.proofs.squeeze_in_two.Goals as goal
 
-pub slice_bounds-squeeze-end-2 : goal.slice_bounds-squeeze-end-2
-slice_bounds-squeeze-end-2 c =
-    let least = c.shorter-middle in
-    sym (length-take-le least.result c.args.out.now (omega (arith, least.ensures)))
-
 pub returns : goal.returns
 unfolding next_parts squeezed_parts
-returns c = let both = (let a = c.args in
+returns c =
+    let a = c.args in
     let out = a.out.now in
     let k = c.shorter-middle.result in
     let least : k ≡ min a.first (length out) = c.shorter-middle.ensures in
     let first = c.squeeze-begun in
     let second = c.squeeze in
     let front : length (take k out) ≡ k = length-take-le k out (omega arith) in
-    let ys = first.new.1.0 in
-    let written : ys ≡ next_bytes k a.s = first.ensures.1 ∙ ap (λ (n : ℕ). next_bytes n a.s) front in
-    let begun : first.result ≡ squeezed k a.s = first.ensures.0 ∙ ap (λ (n : ℕ). squeezed n a.s) front in
-    let count : length ys ≡ k = ap length written ∙ length-next_bytes k a.s in
+    let ys = first.new.out in
+    let wrote : ys ≡ next_bytes k a.s = first.ensures.written ∙ ap (λ (n : ℕ). next_bytes n a.s) front in
+    let begun : first.result ≡ squeezed k a.s = first.ensures.after ∙ ap (λ (n : ℕ). squeezed n a.s) front in
+    let count : length ys ≡ k = ap length wrote ∙ length-next_bytes k a.s in
     let back : length (take (length (ys ++ drop k out) - k) (drop k (ys ++ drop k out))) ≡ length out - k =
-    ap length (second-half out ys [] k count) ∙ length-drop k out in (
-      second.ensures.0 ∙ ap₂ (λ (n : ℕ) (x : Record). squeezed n x) back begun ∙ rw least,
-      both_halves out ys second.new.1.0 k count
-          ∙ ap₂ (λ (x y : List ℕ). x ++ y) written (second.ensures.1 ∙ ap₂ (λ (n : ℕ) (x : Record). next_bytes n x) back begun)
-          ∙ rw (least, append-nil),
-    )) in record { after = both.0; written = both.1 }
+        ap length (second-half out ys [] k count) ∙ length-drop k out in
+    record {
+      after = second.ensures.after ∙ ap₂ (λ (n : ℕ) (x : Record). squeezed n x) back begun ∙ rw least;
+      written =
+        both_halves out ys second.new.out k count
+        ∙ ap₂ (λ (x y : List ℕ). x ++ y) wrote (second.ensures.written ∙ ap₂ (λ (n : ℕ) (x : Record). next_bytes n x) back begun)
+        ∙ rw (least, append-nil);
+    }

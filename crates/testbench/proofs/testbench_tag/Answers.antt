@@ -2,28 +2,32 @@
 -- Assumes nothing.
 use mathlib.Core.Bool.{Bool, cond}
 use mathlib.Core.Path.{◌≡◌, sym, ap, ◌∙◌}
+use mathlib.Core.List.{List}
+use Prim.Native.Nat.{ℕ}
 use lib.ListN.{take}
 use Rattle.checks.specs.Equality.{same}
 use Rattle.mode.specs.declared.Mode.TheVariants.{Mac}
 use Rattle.mode.specs.Mode.{row}
 use Rattle.sponge.specs.Sponge.{one_shot}
+use Rattle.sponge.specs.declared.record.Record.{Record}
+use Rattle.sponge.specs.Record.{fresh as made, absorbed, finished, tag_matches}
 use Rattle.sponge.proofs.Streaming.{calls-tag}
 use borrow.Author.Rules.{rules}
 use Rattle.testbench.proofs.testbench_tag.Goals as goal
 
 -- the verdict is that of the one-shot MAC
-verdict : (c : goal.After-tag_matches) → c.tag_matches.result
-    ≡ same c.args.tag.now
-    (take c.args.tag-length
-    (one_shot (row (Mac c.args.tag-length)) c.args.key.now
-    c.args.message.now 16))
-verdict c =
-    let a = c.args in
-    rw (c.tag_matches.ensures, c.finish-ended.ensures, c.absorb-fed.ensures, c.fresh-fresh.ensures)
-    (calls-tag 1 (Mac a.tag-length) a.key.now a.message.now a.tag.now)
+verdict : (key message tag : List ℕ) (n : ℕ) {fresh fed ended : Record} {b : Bool} → b ≡ tag_matches tag ended → ended ≡ finished fed → fed ≡ absorbed message fresh
+    → fresh ≡ made 1 (Mac n) key → b ≡ same tag (take n (one_shot (row (Mac n)) key message 16))
+verdict key message tag n e₁ e₂ e₃ e₄ = rw (e₁, e₂, e₃, e₄) (calls-tag 1 (Mac n) key message tag)
 
 pub returns-then-tag_matches : goal.returns-then-tag_matches
-returns-then-tag_matches c = ap (λ (t : Bool). cond t 1 0) (sym c.if-tag_matches.true ∙ verdict c.before)
+returns-then-tag_matches c =
+    let a = c.args in
+    ap (λ (t : Bool). cond t 1 0)
+    (sym c.if-tag_matches.true ∙ verdict a.key.now a.message.now a.tag.now a.tag_length c.tag_matches.ensures c.finish-ended.ensures c.absorb-fed.ensures c.fresh-fresh.ensures)
 
 pub returns : goal.returns
-returns c = ap (λ (t : Bool). cond t 1 0) (sym c.if-tag_matches.false ∙ verdict c.before)
+returns c =
+    let a = c.args in
+    ap (λ (t : Bool). cond t 1 0)
+    (sym c.if-tag_matches.false ∙ verdict a.key.now a.message.now a.tag.now a.tag_length c.tag_matches.ensures c.finish-ended.ensures c.absorb-fed.ensures c.fresh-fresh.ensures)

@@ -18,36 +18,20 @@ use Rattle.testbench.proofs.feeds.feed_in_three.Goals as goal
 module _ (m : List ℕ) (first second a b : ℕ) (begin : a ≡ min first (length m)) (more : b ≡ min second (length m - a)) where
   first_part : take a m ≡ take first m
   first_part = ap (λ (n : ℕ). take n m) begin ∙ take_min first m
--- TODO-PORT raw
 
   rest : drop a m ≡ drop first m
   rest = ap (λ (n : ℕ). drop n m) begin ∙ drop_min first m
--- TODO-PORT raw
 
   left : b ≡ min second (length (drop a m))
   left = more ∙ ap (min second) (sym (length-drop a m))
--- TODO-PORT raw
 
   second-part : take (a + b - a) (drop a m) ≡ take second (drop first m)
   second-part =
       let many : a + b - a ≡ b = omega arith in
       ap (λ (n : ℕ). take n (drop a m)) (many ∙ left) ∙ take_min second (drop a m) ∙ ap (take second) rest
--- TODO-PORT raw
 
   third_part : drop (a + b) m ≡ drop second (drop first m)
   third_part = sym (drop-drop b a m) ∙ ap (λ (n : ℕ). drop n (drop a m)) left ∙ drop_min second (drop a m) ∙ ap (drop second) rest
--- TODO-PORT raw
-
-pub overflow_sub-message : goal.overflow_sub-message
-overflow_sub-message c = omega (arith, c.shorter-begin.ensures)
-
-pub overflow_add-end : goal.overflow_add-end
-overflow_add-end c = omega (arith, c.shorter.ensures, c.shorter-begin.ensures)
-
-pub slice_bounds-feed_often-end : goal.slice_bounds-feed_often-end
-slice_bounds-feed_often-end c =
-    let least = c.before.before.shorter in
-    sym (length-take-le least.result c.args.message.now (omega (arith, least.ensures)))
 
 -- the hub after three feeds, each made once, of the parts p, q and s
 fed : (hub once twice r : Hub) (p q s p' q' s' : List ℕ) → once ≡ final on_hub hub (replicate 1 (Feed 1 p))
@@ -59,8 +43,8 @@ fed hub once twice r p q s p' q' s' e₁ e₂ e₃ e e' e'' = rw (e₃, e₂, e�
 pub returns : goal.returns
 returns c =
     let a = c.args in
-    let begin = c.before.before.before.before.before.before.before.shorter in
-    let more = c.before.before.before.before.before.before.shorter2 in
+    let begin = c.shorter-begin in
+    let more = c.shorter in
     fed a.hub _ _ _ _ _ _ _ _ _ c.feed_often-once.ensures c.feed_often-twice.ensures c.feed_often.ensures
     (first_part a.message.now a.first a.second begin.result more.result begin.ensures more.ensures)
     (second-part a.message.now a.first a.second begin.result more.result begin.ensures more.ensures)

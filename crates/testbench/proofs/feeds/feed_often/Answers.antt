@@ -12,9 +12,6 @@ use Rattle.hub.specs.declared.Reply.{Reply}
 use Rattle.hub.specs.Hub.{on_hub}
 use Rattle.testbench.proofs.feeds.feed_often.Goals as goal
 
-pub loop-i-init : goal.loop-i-init
-loop-i-init c = (omega arith, rw sub-zero)
-
 pub loop-i-preserved : goal.loop-i-preserved
 unfolding on_hub
 loop-i-preserved c =

@@ -21,7 +21,7 @@ pub loop-i-preserved : goal.loop-i-preserved
 unfolding on_hub
 loop-i-preserved c =
     let l = c.loop-i in
-    (omega arith, again-next on_hub _ _ l.i l.hub (omega arith) _ (ap (λ (r : Reply). r.hub) c.before.«open».ensures) ∙ l.invariant.1)
+    (omega arith, again-next on_hub _ _ l.i l.hub (omega arith) _ (ap (λ (r : Reply). r.hub) c.open-reply.ensures) ∙ l.invariant.1)
 
 pub returns : goal.returns
 returns c = again-end on_hub _ _ c.loop-i.i c.loop-i.hub (omega arith) ∙ c.loop-i.invariant.1

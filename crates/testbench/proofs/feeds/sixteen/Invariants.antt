@@ -14,7 +14,7 @@ use Rattle.testbench.specs.Feeds.{sixteen}
 use Rattle.testbench.proofs.feeds.sixteen.Given as goal
 
 abbrev pub invariant-loop-i : goal.invariant-loop-i
-invariant-loop-i l = (i ≤ 16) × (final on_hub l.i (replicate (16 - i) (Open 2 (replicate 16 0) 16)) ≡ sixteen)
+invariant-loop-i l = (l.i ≤ 16) × (final on_hub l.hub (replicate (16 - l.i) (Open 2 (replicate 16 0) 16)) ≡ sixteen)
 
 abbrev pub decreases-loop-i : goal.decreases-loop-i
-decreases-loop-i l = 16 - i
+decreases-loop-i l = 16 - l.i
