@@ -2,7 +2,6 @@
 -- Assumes nothing.
 use mathlib.Core.Path.{sym, ◌∙◌}
 use borrow.Author.Rules.{rules}
-use borrow.Author.Tests.{not-true, not-false}
 use Rattle.interpreter.specs.Session.{reader_of}
 use Rattle.interpreter.proofs.Bounds.{left}
 use Rattle.rampscript.proofs.Turns.{Made, made_none, made_more, fewer, run-over}
@@ -13,12 +12,12 @@ loop-next-init c = made_none _
 
 pub returns-then-not-more : goal.returns-then-not-more
 returns-then-not-more c = run-over _ _ _ _ c.loop-next.invariant c.make_turn-next.ensures
-    (sym c.more.ensures ∙ not-true c.more.result c.if-not-more.true)
+    (sym c.more.ensures ∙ c.if-not-more.true)
 
 pub loop-next-smaller : goal.loop-next-smaller
 loop-next-smaller c = fewer _ _ _ _ c.loop-next.invariant c.make_turn-next.ensures
-    (sym c.more.ensures ∙ not-false c.more.result c.if-not-more.false)
+    (sym c.more.ensures ∙ c.if-not-more.false)
 
 pub loop-next-preserved : goal.loop-next-preserved
 loop-next-preserved c = made_more _ _ _ _ c.loop-next.invariant c.make_turn-next.ensures
-    (sym c.more.ensures ∙ not-false c.more.result c.if-not-more.false)
+    (sym c.more.ensures ∙ c.if-not-more.false)
