@@ -1,6 +1,5 @@
 -- `listing::feed` meets its contract.
 -- Assumes nothing.
-use borrow.Author.Rules.{rules}
 use Rattle.hub.specs.Hub.{on_hub}
 use Rattle.listing.specs.Listing.{call_text}
 use Rattle.listing.proofs.Lists.{lists_call, feed-leaves}

@@ -1,6 +1,5 @@
 -- `listing::open` meets its contract.
 -- Assumes nothing.
-use borrow.Author.Rules.{rules}
 use Rattle.hub.specs.Hub.{on_hub}
 use Rattle.script.proofs.Texts.{wrote-more}
 use Rattle.listing.proofs.Lists.{lists_call, open-leaves}

@@ -1,6 +1,5 @@
 -- `listing::put_answer` meets its contract.
 -- Assumes nothing.
-use borrow.Author.Rules.{rules}
 use Rattle.script.proofs.Texts.{wrote-more}
 use Rattle.listing.specs.Listing.{answer_text}
 use Rattle.listing.proofs.put_answer.Goals as goal

@@ -1,6 +1,5 @@
 -- `listing::put_call` meets its contract.
 -- Assumes nothing.
-use borrow.Author.Rules.{rules}
 use Rattle.script.proofs.Texts.{wrote-more}
 use Rattle.listing.specs.Listing.{three_fields}
 use Rattle.listing.proofs.put_call.Goals as goal

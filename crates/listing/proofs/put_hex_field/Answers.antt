@@ -1,6 +1,5 @@
 -- `listing::put_hex_field` meets its contract.
 -- Assumes nothing.
-use borrow.Author.Rules.{rules}
 use Rattle.script.proofs.Texts.{wrote-more}
 use Rattle.listing.specs.Listing.{bytes_field}
 use Rattle.listing.proofs.put_hex_field.Goals as goal

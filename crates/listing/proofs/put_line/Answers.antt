@@ -1,6 +1,5 @@
 -- `listing::put_line` meets its contract.
 -- Assumes nothing.
-use borrow.Author.Rules.{rules}
 use Rattle.script.proofs.Texts.{wrote-more}
 use Rattle.listing.proofs.put_line.Goals as goal
 

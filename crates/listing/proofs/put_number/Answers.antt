@@ -1,6 +1,5 @@
 -- `listing::put_number` meets its contract.
 -- Assumes nothing.
-use borrow.Author.Rules.{rules}
 use Rattle.script.proofs.Texts.{wrote-more}
 use Rattle.listing.specs.Listing.{number_field}
 use Rattle.listing.proofs.put_number.Goals as goal

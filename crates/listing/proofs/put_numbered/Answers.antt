@@ -1,6 +1,5 @@
 -- `listing::put_numbered` meets its contract.
 -- Assumes nothing.
-use borrow.Author.Rules.{rules}
 use Rattle.script.proofs.Texts.{wrote-more}
 use Rattle.listing.specs.Listing.{numbered}
 use Rattle.listing.proofs.put_numbered.Goals as goal

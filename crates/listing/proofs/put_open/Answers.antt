@@ -1,6 +1,5 @@
 -- `listing::put_open` meets its contract.
 -- Assumes nothing.
-use borrow.Author.Rules.{rules}
 use Rattle.script.proofs.Texts.{wrote-more}
 use Rattle.listing.specs.Listing.{call_text}
 use Rattle.listing.proofs.put_open.Goals as goal

@@ -1,6 +1,5 @@
 -- `listing::put_response` meets its contract.
 -- Assumes nothing.
-use borrow.Author.Rules.{rules}
 use Rattle.script.proofs.Texts.{wrote-more}
 use Rattle.listing.specs.Listing.{response_text}
 use Rattle.listing.proofs.put_response.Goals as goal
