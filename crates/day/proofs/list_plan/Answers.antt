@@ -1,13 +1,9 @@
 -- `day::list_plan` meets its contract.
 -- Assumes nothing.
-use mathlib.Core.Path.{◌≡◌, refl, ◌∙◌}
-use Prim.Native.Nat.{◌-◌, zero-le}
+use mathlib.Core.Path.{refl, ◌∙◌}
+use Prim.Native.Nat.{zero-le}
 use native.Mathlib.Omega.{arith}
-use borrow.Author.Rules.{rules}
-use lib.ListN.{length, drop}
-use Rattle.hub.specs.Hub.{empty_hub}
-use Rattle.script.proofs.Texts.{wrote-length, TextLeft, text-begun, text-next, text-done}
-use Rattle.day.specs.Day.{plan_text}
+use Rattle.script.proofs.Texts.{wrote-length, text-begun, text-next, text-done}
 use Rattle.day.proofs.Plans.{one-step, no_step}
 use Rattle.day.proofs.list_plan.Goals as goal
 

@@ -1,14 +1,11 @@
 -- `day::list_plan` meets its contract.
 -- Assumes nothing.
-use mathlib.Core.Path.{◌≡◌, refl, ◌∙◌}
-use Prim.Native.Nat.{◌-◌, zero-le}
-use native.Mathlib.Omega.{arith}
-use borrow.Author.Rules.{rules}
+use mathlib.Core.Path.{◌≡◌}
+use Prim.Native.Nat.{◌-◌}
 use lib.ListN.{length, drop}
 use Rattle.hub.specs.Hub.{empty_hub}
-use Rattle.script.proofs.Texts.{wrote-length, TextLeft, text-begun, text-next, text-done}
+use Rattle.script.proofs.Texts.{TextLeft}
 use Rattle.day.specs.Day.{plan_text}
-use Rattle.day.proofs.Plans.{one-step, no_step}
 use Rattle.day.proofs.list_plan.Given as goal
 
 abbrev pub invariant-loop-i : goal.invariant-loop-i

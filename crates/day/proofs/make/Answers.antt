@@ -5,7 +5,6 @@ use native.Mathlib.Omega.{arith}
 use lib.ListN.{replicate}
 use lib.Seq.{length-take-le}
 use Rattle.day.proofs.Plans.{is_open, is-feed, is-draw, is-check, is-close, is_sum, take-inside, as_planned}
-use borrow.Author.Rules.{rules}
 use Rattle.day.proofs.make.Goals as goal
 
 pub slice_bounds-draw-end : goal.slice_bounds-draw-end

@@ -1,7 +1,6 @@
 -- `day::make_step` meets its contract.
 -- Assumes nothing.
 use Rattle.day.proofs.Plans.{as_step, begins, makes, turns}
-use borrow.Author.Rules.{rules}
 use Rattle.day.proofs.make_step.Goals as goal
 
 pub returns-in-Begin : goal.returns-in-Begin

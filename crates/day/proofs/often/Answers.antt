@@ -1,7 +1,6 @@
 -- `day::often` meets its contract.
 -- Assumes nothing.
 use Rattle.day.specs.Day.{step_after, step_text}
-use borrow.Author.Rules.{rules}
 use Rattle.day.proofs.often.Goals as goal
 
 pub returns : goal.returns

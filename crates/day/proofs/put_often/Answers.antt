@@ -1,6 +1,5 @@
 -- `day::put_often` meets its contract.
 -- Assumes nothing.
-use borrow.Author.Rules.{rules}
 use Rattle.script.proofs.Texts.{wrote-more}
 use Rattle.day.specs.Day.{often_text}
 use Rattle.day.proofs.put_often.Goals as goal

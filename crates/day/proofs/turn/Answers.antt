@@ -2,7 +2,6 @@
 -- Assumes nothing.
 use mathlib.Core.Path.{sym}
 use native.Mathlib.Omega.{arith}
-use borrow.Author.Rules.{rules}
 use Rattle.day.proofs.Plans.{opens-keyed, opens-unkeyed, feeds, draws, closes}
 use Rattle.day.proofs.turn.Goals as goal
 

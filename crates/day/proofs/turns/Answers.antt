@@ -1,13 +1,9 @@
 -- `day::turns` meets its contract.
 -- Assumes nothing.
-use mathlib.Core.Path.{◌≡◌, refl, ◌∙◌}
-use Prim.Native.Nat.{◌-◌}
+use mathlib.Core.Path.{refl, ◌∙◌}
 use native.Mathlib.Omega.{arith}
-use borrow.Author.Rules.{rules}
-use lib.ListN.{length}
 use Rattle.script.proofs.Texts.{wrote-length}
-use Rattle.listing.proofs.Lists.{Left, all_left, one-made, none_left}
-use Rattle.day.specs.Day.{turns_from}
+use Rattle.listing.proofs.Lists.{all_left, one-made, none_left}
 use Rattle.day.proofs.Plans.{one-turn, no_turn}
 use Rattle.day.proofs.turns.Goals as goal
 

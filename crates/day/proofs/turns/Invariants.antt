@@ -1,14 +1,10 @@
 -- `day::turns` meets its contract.
 -- Assumes nothing.
-use mathlib.Core.Path.{◌≡◌, refl, ◌∙◌}
+use mathlib.Core.Path.{◌≡◌}
 use Prim.Native.Nat.{◌-◌}
-use native.Mathlib.Omega.{arith}
-use borrow.Author.Rules.{rules}
 use lib.ListN.{length}
-use Rattle.script.proofs.Texts.{wrote-length}
-use Rattle.listing.proofs.Lists.{Left, all_left, one-made, none_left}
+use Rattle.listing.proofs.Lists.{Left}
 use Rattle.day.specs.Day.{turns_from}
-use Rattle.day.proofs.Plans.{one-turn, no_turn}
 use Rattle.day.proofs.turns.Given as goal
 
 abbrev pub invariant-loop-i : goal.invariant-loop-i
