@@ -4,7 +4,6 @@ use mathlib.Core.Path.{refl}
 use Rattle.word.specs.Word.{bit, word, number, column, rotr}
 use Rattle.word.specs.Bytes.{from_bytes, to_bytes, words_of, zeros_to}
 use Rattle.permutation.specs.Permutation.{add_constant, sbox, at_every_place, substitute, mix, diffuse, round, permute}
-use Rattle.mode.specs.Mode.{row}
 use Rattle.sponge.specs.Sponge.{ceiling, initial, start, pad, cut, blocks, runs_ended}
 use Rattle.prf_short.specs.Short.{start_value}
 use Rattle.calls.specs.Machine.{formula}
