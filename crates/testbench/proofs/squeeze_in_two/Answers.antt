@@ -1,6 +1,6 @@
 -- `testbench::squeeze_in_two` meets its contract.
 -- Assumes nothing.
-use mathlib.Core.Path.{◌≡◌, sym, ap, ap₂, ◌∙◌}
+use mathlib.Core.Path.{◌≡◌, ap, ap₂, ◌∙◌}
 use mathlib.Core.List.{List, [], ◌++◌, append-nil}
 use Prim.Native.Nat.{ℕ, ◌-◌, min}
 use native.Mathlib.Omega.{arith}
@@ -11,7 +11,6 @@ use Rattle.sponge.specs.Record.{next_bytes, squeezed}
 use Rattle.sponge.specs.Streaming.{next_parts, squeezed_parts}
 use Rattle.sponge.proofs.Calls.{length-next_bytes}
 use Rattle.testbench.proofs.Halves.{second-half, both_halves}
-use borrow.Author.Rules.{rules}
 use Rattle.testbench.proofs.squeeze_in_two.Goals as goal
 
 pub returns : goal.returns
@@ -29,11 +28,11 @@ returns c =
     let begun : first.result ≡ squeezed k a.s = first.ensures.after ∙ ap (λ (n : ℕ). squeezed n a.s) front in
     let count : length ys ≡ k = ap length wrote ∙ length-next_bytes k a.s in
     let back : length (take (length (ys ++ drop k out) - k) (drop k (ys ++ drop k out))) ≡ length out - k =
-        ap length (second-half out ys [] k count) ∙ length-drop k out in
+    ap length (second-half out ys [] k count) ∙ length-drop k out in
     record {
       after = second.ensures.after ∙ ap₂ (λ (n : ℕ) (x : Record). squeezed n x) back begun ∙ rw least;
       written =
-        both_halves out ys second.new.out k count
-        ∙ ap₂ (λ (x y : List ℕ). x ++ y) wrote (second.ensures.written ∙ ap₂ (λ (n : ℕ) (x : Record). next_bytes n x) back begun)
-        ∙ rw (least, append-nil);
+          both_halves out ys second.new.out k count
+          ∙ ap₂ (λ (x y : List ℕ). x ++ y) wrote (second.ensures.written ∙ ap₂ (λ (n : ℕ) (x : Record). next_bytes n x) back begun)
+          ∙ rw (least, append-nil);
     }

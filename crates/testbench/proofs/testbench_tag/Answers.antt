@@ -12,7 +12,6 @@ use Rattle.sponge.specs.Sponge.{one_shot}
 use Rattle.sponge.specs.declared.record.Record.{Record}
 use Rattle.sponge.specs.Record.{fresh as made, absorbed, finished, tag_matches}
 use Rattle.sponge.proofs.Streaming.{calls-tag}
-use borrow.Author.Rules.{rules}
 use Rattle.testbench.proofs.testbench_tag.Goals as goal
 
 -- the verdict is that of the one-shot MAC

@@ -5,13 +5,12 @@ use mathlib.Core.List.{List, [], ◌∷◌}
 use Prim.Native.Nat.{ℕ, ◌+◌, ◌-◌, min}
 use native.Mathlib.Omega.{arith}
 use lib.ListN.{length, take, drop, replicate, length-drop}
-use lib.Seq.{drop-drop, length-take-le}
+use lib.Seq.{drop-drop}
 use Rattle.word.proofs.Lists.{take_min, drop_min}
 use Rattle.checks.proofs.Buffers.{part_to_end}
 use Rattle.calls.specs.Call.{Feed, final}
 use Rattle.hub.specs.declared.Hub.{Hub}
 use Rattle.hub.specs.Hub.{on_hub}
-use borrow.Author.Rules.{rules}
 use Rattle.testbench.proofs.feeds.feed_in_three.Goals as goal
 
 -- a message cut behind a bytes, and behind b more

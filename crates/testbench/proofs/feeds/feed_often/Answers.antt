@@ -1,12 +1,7 @@
 -- `testbench::feeds::feed_often` meets its contract.
 -- Assumes nothing.
-use mathlib.Core.Path.{◌≡◌, ap, ◌∙◌}
-use Prim.Native.Nat.{◌-◌, ◌≤◌}
-use native.Mathlib.Nat.{sub-zero}
+use mathlib.Core.Path.{ap, ◌∙◌}
 use native.Mathlib.Omega.{arith}
-use borrow.Author.Rules.{rules}
-use lib.ListN.{replicate}
-use Rattle.calls.specs.Call.{Feed, final}
 use Rattle.calls.proofs.Repeats.{again-next, again-end}
 use Rattle.hub.specs.declared.Reply.{Reply}
 use Rattle.hub.specs.Hub.{on_hub}

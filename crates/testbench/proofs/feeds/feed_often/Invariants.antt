@@ -1,14 +1,9 @@
--- `testbench::feeds::feed_often` meets its contract.
+-- The feeds that are left leave what all of them do.
 -- Assumes nothing.
-use mathlib.Core.Path.{◌≡◌, ap, ◌∙◌}
+use mathlib.Core.Path.{◌≡◌}
 use Prim.Native.Nat.{◌-◌, ◌≤◌}
-use native.Mathlib.Nat.{sub-zero}
-use native.Mathlib.Omega.{arith}
-use borrow.Author.Rules.{rules}
 use lib.ListN.{replicate}
 use Rattle.calls.specs.Call.{Feed, final}
-use Rattle.calls.proofs.Repeats.{again-next, again-end}
-use Rattle.hub.specs.declared.Reply.{Reply}
 use Rattle.hub.specs.Hub.{on_hub}
 use Rattle.testbench.proofs.feeds.feed_often.Given as goal
 

@@ -1,9 +1,7 @@
 -- `testbench::feeds::sixteen` meets its contract.
 -- Assumes nothing.
-use mathlib.Core.Path.{◌≡◌, ap, ◌∙◌}
-use Prim.Native.Nat.{◌-◌, ◌≤◌}
+use mathlib.Core.Path.{ap, ◌∙◌}
 use native.Mathlib.Omega.{arith}
-use borrow.Author.Rules.{rules}
 use lib.ListN.{replicate}
 use Rattle.calls.specs.Call.{Open, final}
 use Rattle.calls.proofs.Repeats.{again-next, again-end}

@@ -1,14 +1,9 @@
--- `testbench::feeds::sixteen` meets its contract.
+-- The opens that are left fill the hub.
 -- Assumes nothing.
-use mathlib.Core.Path.{◌≡◌, ap, ◌∙◌}
+use mathlib.Core.Path.{◌≡◌}
 use Prim.Native.Nat.{◌-◌, ◌≤◌}
-use native.Mathlib.Omega.{arith}
-use borrow.Author.Rules.{rules}
 use lib.ListN.{replicate}
 use Rattle.calls.specs.Call.{Open, final}
-use Rattle.calls.proofs.Repeats.{again-next, again-end}
-use Rattle.hub.specs.declared.Hub.{Hub}
-use Rattle.hub.specs.declared.Reply.{Reply}
 use Rattle.hub.specs.Hub.{on_hub}
 use Rattle.testbench.specs.Feeds.{sixteen}
 use Rattle.testbench.proofs.feeds.sixteen.Given as goal

@@ -1,6 +1,5 @@
 -- `testbench::feeds::testbench_feeds_by_value` meets its contract.
 -- Assumes nothing.
-use borrow.Author.Rules.{rules}
 use Rattle.testbench.proofs.FeedCounts.{count-given}
 use Rattle.testbench.proofs.feeds.testbench_feeds_by_value.Goals as goal
 

@@ -1,6 +1,5 @@
 -- `testbench::feeds::testbench_feeds_in_place` meets its contract.
 -- Assumes nothing.
-use borrow.Author.Rules.{rules}
 use Rattle.testbench.proofs.FeedCounts.{count-given}
 use Rattle.testbench.proofs.feeds.testbench_feeds_in_place.Goals as goal
 

@@ -4,11 +4,10 @@ use mathlib.Core.Path.{◌≡◌, ap, ◌∙◌}
 use mathlib.Core.List.{List}
 use Prim.Native.Nat.{ℕ}
 use lib.ListN.{length}
-use borrow.Author.Rules.{rules}
 use Rattle.calls.specs.Call.{Response, final}
 use Rattle.hub.specs.declared.Hub.{Hub}
 use Rattle.hub.specs.declared.Reply.{Reply}
-use Rattle.hub.specs.Hub.{empty_hub, open_hub, draw_hub, on_hub, reply_of}
+use Rattle.hub.specs.Hub.{empty_hub, open_hub, draw_hub, on_hub}
 use Rattle.testbench.specs.Feeds.{feed_in_three, drawn_of_parts}
 use Rattle.testbench.proofs.feeds.testbench_parts_in_place.Goals as goal
 
