@@ -16,8 +16,8 @@ loop-i-init c = let a = c.args in (refl, all_left _ a.before a.text.now a.at c.r
 
 pub loop-i-preserved : goal.loop-i-preserved
 loop-i-preserved c = (
-  wrote-length c.before.before.«open».ensures.text ∙ c.loop-i.invariant.0,
-  one-made (one_again _ 8 c.loop-i.i (omega arith)) c.loop-i.invariant.1 c.before.before.«open».ensures,
+  wrote-length c.open-current.ensures.text ∙ c.loop-i.invariant.0,
+  one-made (one_again _ 8 c.loop-i.i (omega arith)) c.loop-i.invariant.1 c.open-current.ensures,
 )
 
 pub shape_of-text : goal.shape_of-text
