@@ -1,12 +1,9 @@
 -- `mainloop::draw_all` meets its contract.
 -- Assumes nothing.
-use mathlib.Core.Path.{◌≡◌, refl, ◌∙◌}
-use Prim.Native.Nat.{◌-◌}
+use mathlib.Core.Path.{refl, ◌∙◌}
 use native.Mathlib.Omega.{arith}
-use borrow.Author.Rules.{rules}
-use lib.ListN.{length}
 use Rattle.script.proofs.Texts.{wrote-length}
-use Rattle.listing.proofs.Lists.{Left, all_left, one-made, none_left}
+use Rattle.listing.proofs.Lists.{all_left, one-made, none_left}
 use Rattle.mainloop.specs.Rounds.{draws_from}
 use Rattle.mainloop.proofs.RoundList.{one-draw, no_draw}
 use Rattle.mainloop.proofs.draw_all.Goals as goal

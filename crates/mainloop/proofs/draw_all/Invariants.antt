@@ -1,14 +1,10 @@
--- What is listed, and what is left to list, are all the calls; the buffer keeps its length.
+-- `mainloop::draw_all` meets its contract.
 -- Assumes nothing.
-use mathlib.Core.Path.{◌≡◌, refl, ◌∙◌}
+use mathlib.Core.Path.{◌≡◌}
 use Prim.Native.Nat.{◌-◌}
-use native.Mathlib.Omega.{arith}
-use borrow.Author.Rules.{rules}
 use lib.ListN.{length}
-use Rattle.script.proofs.Texts.{wrote-length}
-use Rattle.listing.proofs.Lists.{Left, all_left, one-made, none_left}
+use Rattle.listing.proofs.Lists.{Left}
 use Rattle.mainloop.specs.Rounds.{draws_from}
-use Rattle.mainloop.proofs.RoundList.{one-draw, no_draw}
 use Rattle.mainloop.proofs.draw_all.Given as goal
 
 abbrev pub invariant-loop-ticket : goal.invariant-loop-ticket

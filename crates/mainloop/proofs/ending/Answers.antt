@@ -2,7 +2,6 @@
 -- Assumes nothing.
 use Rattle.listing.proofs.Lists.{lists_more}
 use Rattle.mainloop.specs.Rounds.{ending}
-use borrow.Author.Rules.{rules}
 use Rattle.mainloop.proofs.ending.Goals as goal
 
 pub returns : goal.returns

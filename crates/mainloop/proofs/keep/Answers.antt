@@ -2,7 +2,6 @@
 -- Assumes nothing.
 use native.Mathlib.Omega.{arith}
 use Rattle.mainloop.proofs.RoundList.{kept-both, kept-none}
-use borrow.Author.Rules.{rules}
 use Rattle.mainloop.proofs.keep.Goals as goal
 
 pub returns-then-i-lt-ROUNDS : goal.returns-then-i-lt-ROUNDS

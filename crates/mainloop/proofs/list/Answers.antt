@@ -4,7 +4,6 @@ use mathlib.Core.Path.{◌∙◌}
 use Rattle.script.proofs.Texts.{wrote-more, wrote-length}
 use Rattle.listing.proofs.Lists.{lists_more}
 use Rattle.mainloop.specs.Rounds.{all_calls, list_text}
-use borrow.Author.Rules.{rules}
 use Rattle.mainloop.proofs.list.Goals as goal
 
 pub shape_of-text : goal.shape_of-text

@@ -2,7 +2,6 @@
 -- Assumes nothing.
 use Rattle.script.proofs.Texts.{wrote-more}
 use Rattle.mainloop.specs.Rounds.{both_texts}
-use borrow.Author.Rules.{rules}
 use Rattle.mainloop.proofs.list_both.Goals as goal
 
 pub returns : goal.returns

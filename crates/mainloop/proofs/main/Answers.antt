@@ -2,7 +2,6 @@
 -- Assumes nothing.
 use mathlib.Core.Path.{sym}
 use lib.Seq.{length-take-le}
-use borrow.Author.Rules.{rules}
 use Rattle.script.proofs.Texts.{wrote-inside}
 use Rattle.mainloop.proofs.main.Goals as goal
 

@@ -1,13 +1,9 @@
 -- `mainloop::open_eight` meets its contract.
 -- Assumes nothing.
-use mathlib.Core.Path.{◌≡◌, refl, ◌∙◌}
-use Prim.Native.Nat.{◌-◌}
+use mathlib.Core.Path.{refl, ◌∙◌}
 use native.Mathlib.Omega.{arith}
-use borrow.Author.Rules.{rules}
-use lib.ListN.{length, replicate}
-use Rattle.calls.specs.Call.{Open}
 use Rattle.script.proofs.Texts.{wrote-length}
-use Rattle.listing.proofs.Lists.{Left, all_left, one-made, none_left}
+use Rattle.listing.proofs.Lists.{all_left, one-made, none_left}
 use Rattle.mainloop.proofs.RoundList.{one_again, none-again}
 use Rattle.mainloop.proofs.open_eight.Goals as goal
 

@@ -1,14 +1,10 @@
--- What is listed, and what is left to list, are all the calls; the buffer keeps its length.
+-- `mainloop::open_eight` meets its contract.
 -- Assumes nothing.
-use mathlib.Core.Path.{◌≡◌, refl, ◌∙◌}
+use mathlib.Core.Path.{◌≡◌}
 use Prim.Native.Nat.{◌-◌}
-use native.Mathlib.Omega.{arith}
-use borrow.Author.Rules.{rules}
 use lib.ListN.{length, replicate}
 use Rattle.calls.specs.Call.{Open}
-use Rattle.script.proofs.Texts.{wrote-length}
-use Rattle.listing.proofs.Lists.{Left, all_left, one-made, none_left}
-use Rattle.mainloop.proofs.RoundList.{one_again, none-again}
+use Rattle.listing.proofs.Lists.{Left}
 use Rattle.mainloop.proofs.open_eight.Given as goal
 
 abbrev pub invariant-loop-i : goal.invariant-loop-i

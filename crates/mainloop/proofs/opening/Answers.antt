@@ -2,7 +2,6 @@
 -- Assumes nothing.
 use Rattle.listing.proofs.Lists.{lists_more}
 use Rattle.mainloop.specs.Rounds.{opening}
-use borrow.Author.Rules.{rules}
 use Rattle.mainloop.proofs.opening.Goals as goal
 
 pub returns : goal.returns

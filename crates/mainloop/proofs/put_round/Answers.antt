@@ -3,7 +3,6 @@
 use Rattle.script.proofs.Texts.{wrote-more}
 use Rattle.listing.specs.Listing.{call_text, line}
 use Rattle.mainloop.specs.Kept.{round_text}
-use borrow.Author.Rules.{rules}
 use Rattle.mainloop.proofs.put_round.Goals as goal
 
 pub returns : goal.returns

@@ -1,12 +1,8 @@
 -- `mainloop::put_rounds` meets its contract.
 -- Assumes nothing.
-use mathlib.Core.Path.{◌≡◌, refl, ◌∙◌}
-use Prim.Native.Nat.{◌-◌}
+use mathlib.Core.Path.{refl, ◌∙◌}
 use native.Mathlib.Omega.{arith}
-use borrow.Author.Rules.{rules}
-use lib.ListN.{length}
-use Rattle.script.proofs.Texts.{wrote-length, TextLeft, text-begun, text-next, text-done}
-use Rattle.mainloop.specs.Kept.{rounds_text}
+use Rattle.script.proofs.Texts.{wrote-length, text-begun, text-next, text-done}
 use Rattle.mainloop.proofs.RoundList.{one-round, no_round}
 use Rattle.mainloop.proofs.put_rounds.Goals as goal
 

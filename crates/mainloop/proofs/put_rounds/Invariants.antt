@@ -1,13 +1,10 @@
--- What is written, and what is left to write, is the whole text; the buffer keeps its length.
+-- `mainloop::put_rounds` meets its contract.
 -- Assumes nothing.
-use mathlib.Core.Path.{◌≡◌, refl, ◌∙◌}
+use mathlib.Core.Path.{◌≡◌}
 use Prim.Native.Nat.{◌-◌}
-use native.Mathlib.Omega.{arith}
-use borrow.Author.Rules.{rules}
 use lib.ListN.{length}
-use Rattle.script.proofs.Texts.{wrote-length, TextLeft, text-begun, text-next, text-done}
+use Rattle.script.proofs.Texts.{TextLeft}
 use Rattle.mainloop.specs.Kept.{rounds_text}
-use Rattle.mainloop.proofs.RoundList.{one-round, no_round}
 use Rattle.mainloop.proofs.put_rounds.Given as goal
 
 abbrev pub invariant-loop-i : goal.invariant-loop-i

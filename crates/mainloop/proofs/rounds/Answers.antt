@@ -2,7 +2,6 @@
 -- Assumes nothing.
 use lib.ListN.{length-replicate}
 use Rattle.mainloop.proofs.Kept.{rounds-listed}
-use borrow.Author.Rules.{rules}
 use Rattle.mainloop.proofs.rounds.Goals as goal
 
 pub returns : goal.returns

@@ -1,12 +1,8 @@
--- The rounds that are left leave what all of them do.
+-- `mainloop::serve_by_value` meets its contract.
 -- Assumes nothing.
-use mathlib.Core.Path.{◌≡◌, ap, ◌∙◌}
-use Prim.Native.Nat.{◌+◌, ◌-◌, ◌≤◌}
-use native.Mathlib.Nat.{sub-zero}
-use native.Mathlib.Omega.{arith}
-use borrow.Author.Rules.{rules}
+use mathlib.Core.Path.{◌≡◌}
+use Prim.Native.Nat.{◌-◌, ◌≤◌}
 use Rattle.mainloop.specs.Kept.{served_from}
-use Rattle.mainloop.proofs.RoundList.{round-made, rounds-next, rounds-end}
 use Rattle.mainloop.proofs.serve_by_value.Given as goal
 
 abbrev pub invariant-loop-i : goal.invariant-loop-i
