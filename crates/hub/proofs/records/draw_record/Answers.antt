@@ -39,7 +39,7 @@ pub overflow_add-end : goal.overflow_add-end
 overflow_add-end c = omega (arith, ltb-false _ _ (sym c.exceeds.ensures ∙ c.if-exceeds.false))
 
 pub slice_bounds-squeeze-end : goal.slice_bounds-squeeze-end
-slice_bounds-squeeze-end c = ltb-false _ _ (sym c.exceeds.ensures ∙ c.if-exceeds.false)
+slice_bounds-squeeze-end c = omega (arith, ltb-false _ _ (sym c.exceeds.ensures ∙ c.if-exceeds.false))
 
 pub returns : goal.returns
 returns c =
