@@ -43,7 +43,7 @@ pub round-made : (i : ℕ) (bytes : List ℕ) (h : Hub) (a : Answers) {t u : ℕ
     → Path Served (record { hub = closed.hub; answers = kept }) (record { hub = after_round i bytes h; answers = kept_round i bytes h a })
 round-made i bytes h a et ef eu ec ek = rw (ek, ec, ef, et, eu)
 
--- the same of calls that leave the hubs g and k in place
+-- the same of a hub that is lent: the two calls leave the hubs g and k
 pub round-lent : (i : ℕ) (bytes : List ℕ) (h : Hub) (a : Answers) {t u : ℕ} {fed closed : Answer} {g k : Hub} {kept : Answers}
     → t ≡ feed_ticket i → fed ≡ (feed_hub t bytes h).response.answer → g ≡ (feed_hub t bytes h).after
     → u ≡ close_ticket i → closed ≡ (close_hub u g).response.answer → k ≡ (close_hub u g).after → kept ≡ keep i fed closed a

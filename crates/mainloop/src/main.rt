@@ -55,7 +55,7 @@ fn keep(answers: Answers, i: usize, fed: Answer, closed: Answer) -> Answers
     Answers { kept: kept }
 }
 
-// Made by a call: both loops hand their hub and answers on so.
+// What rounds leave, as one value.
 fn after_rounds(hub: Hub, answers: Answers) -> Served
     ensures { result ≡ record { hub = hub; answers = answers } }
 {

@@ -1,4 +1,4 @@
--- `mainloop::open_eight` meets its contract.
+-- What is listed, and what is left to list, are all the calls; the buffer keeps its length.
 -- Assumes nothing.
 use mathlib.Core.Path.{◌≡◌}
 use Prim.Native.Nat.{◌-◌}

@@ -1,4 +1,4 @@
--- `mainloop::put_rounds` meets its contract.
+-- What is written, and what is left to write, is the whole text; the buffer keeps its length.
 -- Assumes nothing.
 use mathlib.Core.Path.{◌≡◌}
 use Prim.Native.Nat.{◌-◌}

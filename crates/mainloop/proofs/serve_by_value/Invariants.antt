@@ -1,4 +1,4 @@
--- `mainloop::serve_by_value` meets its contract.
+-- The rounds that are left leave what all of them do.
 -- Assumes nothing.
 use mathlib.Core.Path.{◌≡◌}
 use Prim.Native.Nat.{◌-◌, ◌≤◌}

@@ -1,4 +1,4 @@
--- `mainloop::serve_in_place` meets its contract. The loop's invariant: the rounds that are left leave what all of them do.
+-- The rounds that are left leave what all of them do.
 -- Assumes nothing.
 use Rattle.std.proofs.Common.{◌≡◌, ◌-◌, ◌≤◌}
 use Rattle.mainloop.specs.Kept.{served_from}
