@@ -1,4 +1,5 @@
 -- The feeds that are left leave what all of them do.
+-- Assumes nothing.
 use Rattle.std.proofs.Common.{◌≡◌, ◌-◌, ◌≤◌, replicate}
 use Rattle.calls.specs.Call.{Feed, final}
 use Rattle.hub.specs.Hub.{on_hub}
