@@ -2,6 +2,7 @@
 pub mod Locating
 pub mod RecordCalls
 pub mod Calls
+pub mod InPlace
 pub mod Model
 pub mod Tickets
 pub mod Represents
