@@ -6,7 +6,7 @@ use mathlib.Core.Bool.{Bool, true, false}
 use mathlib.Core.List.{[], ◌∷◌}
 use Prim.Native.Char.{code}
 use Prim.Native.String.{String}
-use Rattle.mode.specs.Mode.{row, named}
+use Rattle.mode.specs.Mode.{named}
 use Rattle.sponge.specs.Sponge.{ceiling, start, one_shot, output as spongeOutput, squeeze_bytes, runs_feeding, runs_ended}
 use Rattle.checks.specs.Buffers.{written}
 use Rattle.checks.specs.Equality.{same}

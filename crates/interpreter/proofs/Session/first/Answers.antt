@@ -1,7 +1,6 @@
 -- `interpreter::Session::first` meets its contract.
 -- Assumes nothing.
 use Rattle.interpreter.specs.Session.{begun}
-use borrow.Author.Rules.{rules}
 use Rattle.interpreter.proofs.Session.first.Goals as goal
 
 pub returns : goal.returns

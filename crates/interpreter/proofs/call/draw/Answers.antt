@@ -1,7 +1,6 @@
 -- `interpreter::call::draw` meets its contract: it lends what `clear` made of the buffer.
 -- Assumes nothing.
 use Rattle.hub.specs.Hub.{on_hub}
-use borrow.Author.Rules.{rules}
 use Rattle.interpreter.proofs.call.draw.Goals as goal
 
 pub returns : goal.returns

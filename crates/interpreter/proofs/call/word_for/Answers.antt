@@ -2,7 +2,6 @@
 -- Assumes nothing.
 use mathlib.Core.Path.{◌∙◌}
 use Rattle.interpreter.proofs.Printing.{word-refused, word-accepted}
-use borrow.Author.Rules.{rules}
 use Rattle.interpreter.proofs.call.word_for.Goals as goal
 
 pub returns-then-answer-ne0 : goal.returns-then-answer-ne0

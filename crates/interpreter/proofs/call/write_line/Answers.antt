@@ -1,7 +1,6 @@
 -- `interpreter::call::write_line` meets its contract.
 -- Assumes nothing.
 use Rattle.interpreter.specs.Script.{answered}
-use borrow.Author.Rules.{rules}
 use Rattle.interpreter.proofs.call.write_line.Goals as goal
 
 pub returns : goal.returns

@@ -2,11 +2,8 @@
 -- Assumes nothing.
 use mathlib.Core.Path.{sym}
 use borrow.Author.Tests.{not-true, not-false}
-use Prim.Native.Nat.{◌+◌, ◌-◌, ◌≤◌, ◌<◌}
 use native.Mathlib.Omega.{arith}
-use lib.ListN.{length}
 use lib.Seq.{length-take-le}
-use Rattle.script.specs.Line.{longest_line}
 use Rattle.interpreter.proofs.Advancing.{below, advance-stopped, taken-inside, taken-room, advance-held, advance-line, advance-long}
 use Rattle.interpreter.proofs.chunk.advance.Goals as goal
 
@@ -22,15 +19,21 @@ pub overflow_add-end : goal.overflow_add-end
 overflow_add-end c =
     let a = c.args in
     let t = c.take_line-n in
-    omega (arith, taken-inside a.session a.line.now a.chunk.now a.at a.out.now a.from
-    c.requires.0 c.requires.1 (not-false _ c.if-not-session.false) t.result t.new.line t.ensures.count t.ensures.line)
+    omega (
+      arith,
+      taken-inside a.session a.line.now a.chunk.now a.at a.out.now a.from
+          c.requires.0 c.requires.1 (not-false _ c.if-not-session.false) t.result t.new.line t.ensures.count t.ensures.line,
+    )
 
 pub overflow_add-held : goal.overflow_add-held
 overflow_add-held c =
     let a = c.args in
     let t = c.take_line-n in
-    omega (arith, taken-room a.session a.line.now a.chunk.now a.at a.out.now a.from
-    c.requires.0 c.requires.1 (not-false _ c.if-not-session.false) t.result t.new.line t.ensures.count t.ensures.line)
+    omega (
+      arith,
+      taken-room a.session a.line.now a.chunk.now a.at a.out.now a.from
+          c.requires.0 c.requires.1 (not-false _ c.if-not-session.false) t.result t.new.line t.ensures.count t.ensures.line,
+    )
 
 pub returns-then-end-chunk : goal.returns-then-end-chunk
 returns-then-end-chunk c =
@@ -44,8 +47,11 @@ pub overflow_add-next : goal.overflow_add-next
 overflow_add-next c =
     let a = c.args in
     let t = c.take_line-n in
-    omega (arith, below (taken-inside a.session a.line.now a.chunk.now a.at a.out.now a.from
-    c.requires.0 c.requires.1 (not-false _ c.if-not-session.false) t.result t.new.line t.ensures.count t.ensures.line) c.if-end-chunk.false)
+    omega (
+      arith,
+      below (taken-inside a.session a.line.now a.chunk.now a.at a.out.now a.from
+          c.requires.0 c.requires.1 (not-false _ c.if-not-session.false) t.result t.new.line t.ensures.count t.ensures.line) c.if-end-chunk.false,
+    )
 
 pub bounds-chunk-end : goal.bounds-chunk-end
 bounds-chunk-end c =
@@ -58,8 +64,11 @@ pub overflow_add-held-then-chunk-end-eq10 : goal.overflow_add-held-then-chunk-en
 overflow_add-held-then-chunk-end-eq10 c =
     let a = c.args in
     let t = c.take_line-n in
-    omega (arith, taken-room a.session a.line.now a.chunk.now a.at a.out.now a.from
-    c.requires.0 c.requires.1 (not-false _ c.if-not-session.false) t.result t.new.line t.ensures.count t.ensures.line)
+    omega (
+      arith,
+      taken-room a.session a.line.now a.chunk.now a.at a.out.now a.from
+          c.requires.0 c.requires.1 (not-false _ c.if-not-session.false) t.result t.new.line t.ensures.count t.ensures.line,
+    )
 
 pub slice_bounds-step-end-then-chunk-end-eq10 : goal.slice_bounds-step-end-then-chunk-end-eq10
 slice_bounds-step-end-then-chunk-end-eq10 c = sym (length-take-le _ _ (omega (arith, c.place_in-size.ensures)))

@@ -3,7 +3,6 @@
 use native.Mathlib.Omega.{arith}
 use Rattle.interpreter.specs.Script.{answer_names}
 use Rattle.interpreter.proofs.Ending.{wrote-first}
-use borrow.Author.Rules.{rules}
 use Rattle.interpreter.proofs.chunk.begin_in.Goals as goal
 
 pub returns : goal.returns

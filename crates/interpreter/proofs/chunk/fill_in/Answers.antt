@@ -1,10 +1,9 @@
 -- `interpreter::chunk::fill_in` meets its contract. The loop: filling what is left goes on from what is in the buffer.
 -- Assumes nothing.
-use Prim.Native.Nat.{◌-◌}
+use Prim.Native.Nat.{◌+◌, ◌<◌}
 use native.Mathlib.Omega.{arith}
-use lib.ListN.{length}
-use borrow.Author.Rules.{rules}
-use Rattle.interpreter.proofs.FillLoop.{Filling, filling_first, filling_next, filling_done, filling_full}
+use Rattle.interpreter.specs.Session.{longest_answer, output_size}
+use Rattle.interpreter.proofs.FillLoop.{filling_first, filling_next, filling_done, filling_full}
 use Rattle.interpreter.proofs.chunk.fill_in.Goals as goal
 
 pub loop-next-init : goal.loop-next-init
@@ -39,7 +38,9 @@ pub shape_of-out-after-loop-next : goal.shape_of-out-after-loop-next
 shape_of-out-after-loop-next c = omega (arith, c.loop-next.invariant.room, c.requires.1)
 
 pub returns-after-loop-next : goal.returns-after-loop-next
-returns-after-loop-next c = let both = (filling_done _ _ _ _ _ _ _ _ _ _ c.loop-next.invariant c.loop-next-test.false) in record { progress = both.0; line = both.1.0; out = both.1.1 }
+returns-after-loop-next c =
+    let r = filling_done _ _ _ _ _ _ _ _ _ _ c.loop-next.invariant c.loop-next-test.false in
+    record { progress = r.0; line = r.1.0; out = r.1.1 }
 
 pub shape_of-line-then-out-size-lt-LONGEST_ANSWER : goal.shape_of-line-then-out-size-lt-LONGEST_ANSWER
 shape_of-line-then-out-size-lt-LONGEST_ANSWER c = omega (arith, c.loop-next.invariant.buffer, c.requires.0)
@@ -48,5 +49,7 @@ pub shape_of-out-then-out-size-lt-LONGEST_ANSWER : goal.shape_of-out-then-out-si
 shape_of-out-then-out-size-lt-LONGEST_ANSWER c = omega (arith, c.loop-next.invariant.room, c.requires.1)
 
 pub returns-then-out-size-lt-LONGEST_ANSWER : goal.returns-then-out-size-lt-LONGEST_ANSWER
-returns-then-out-size-lt-LONGEST_ANSWER c = let both = (filling_full _ _ _ _ _ _ _ _ _ _ c.loop-next.invariant c.loop-next-test.true
-    (omega (arith, c.if-out-size-lt-LONGEST_ANSWER.true, c.loop-next.invariant.room))) in record { progress = both.0; line = both.1.0; out = both.1.1 }
+returns-then-out-size-lt-LONGEST_ANSWER c =
+    let full : output_size < c.loop-next.size + longest_answer = omega (arith, c.if-out-size-lt-LONGEST_ANSWER.true, c.loop-next.invariant.room) in
+    let r = filling_full _ _ _ _ _ _ _ _ _ _ c.loop-next.invariant c.loop-next-test.true full in
+    record { progress = r.0; line = r.1.0; out = r.1.1 }

@@ -1,10 +1,8 @@
 -- `interpreter::chunk::fill_in` meets its contract. The loop: filling what is left goes on from what is in the buffer.
 -- Assumes nothing.
 use Prim.Native.Nat.{◌-◌}
-use native.Mathlib.Omega.{arith}
 use lib.ListN.{length}
-use borrow.Author.Rules.{rules}
-use Rattle.interpreter.proofs.FillLoop.{Filling, filling_first, filling_next, filling_done, filling_full}
+use Rattle.interpreter.proofs.FillLoop.{Filling}
 use Rattle.interpreter.proofs.chunk.fill_in.Given as goal
 
 abbrev pub invariant-loop-next : goal.invariant-loop-next

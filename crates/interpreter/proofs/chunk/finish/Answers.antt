@@ -7,13 +7,13 @@ use Rattle.interpreter.proofs.chunk.finish.Goals as goal
 pub returns-then-complete : goal.returns-then-complete
 returns-then-complete c =
     let a = c.args in
-    let both = finish-complete a.session a.line.now a.out.now (sym c.complete.ensures ∙ c.if-complete.true) in
-    record { stepped = both.0; line = both.1.0; out = both.1.1 }
+    let r = finish-complete a.session a.line.now a.out.now (sym c.complete.ensures ∙ c.if-complete.true) in
+    record { stepped = r.0; line = r.1.0; out = r.1.1 }
 
 pub returns : goal.returns
 returns c =
     let a = c.args in
     let f = c.fill-last in
-    let both = finish-supplied a.session a.line.now a.out.now f.result f.new.line f.new.out
+    let r = finish-supplied a.session a.line.now a.out.now f.result f.new.line f.new.out
     (sym c.complete.ensures ∙ c.if-complete.false) f.ensures.progress f.ensures.line f.ensures.out in
-    record { stepped = both.0; line = both.1.0; out = both.1.1 }
+    record { stepped = r.0; line = r.1.0; out = r.1.1 }
