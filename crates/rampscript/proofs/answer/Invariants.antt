@@ -1,14 +1,9 @@
 -- `rampscript::answer` meets its contract. The loop: the bytes before the place were consumed.
 -- Assumes nothing.
-use mathlib.Core.Path.{sym, ap}
-use Prim.Native.Nat.{◌-◌, ◌≤◌}
-use native.Mathlib.Omega.{arith}
+use Prim.Native.Nat.{◌-◌}
 use lib.ListN.{length}
-use lib.Seq.{length-take-le}
-use borrow.Author.Rules.{rules}
-use Rattle.interpreter.specs.declared.Progress.{Progress}
 use Rattle.interpreter.specs.Session.{reader_of}
-use Rattle.rampscript.proofs.Chunks.{covers, Answers, answers-first, answers-ahead, answers_next, answers-done, answers-failed}
+use Rattle.rampscript.proofs.Chunks.{Answers}
 use Rattle.rampscript.proofs.answer.Given as goal
 
 abbrev pub invariant-loop-at : goal.invariant-loop-at

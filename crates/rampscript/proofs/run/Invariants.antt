@@ -1,11 +1,8 @@
 -- `rampscript::run` meets its contract. The loop: the chunks that were read were consumed; and with each turn fewer bytes may still be read.
 -- Assumes nothing.
-use mathlib.Core.Path.{sym, ◌∙◌}
-use borrow.Author.Rules.{rules}
-use borrow.Author.Tests.{not-true, not-false}
 use Rattle.interpreter.specs.Session.{reader_of}
 use Rattle.interpreter.proofs.Bounds.{left}
-use Rattle.rampscript.proofs.Turns.{Made, made_none, made_more, fewer, run-over}
+use Rattle.rampscript.proofs.Turns.{Made}
 use Rattle.rampscript.proofs.run.Given as goal
 
 abbrev pub invariant-loop-next : goal.invariant-loop-next
