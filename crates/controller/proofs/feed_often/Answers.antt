@@ -1,4 +1,4 @@
--- `feed_often` meets its contract.
+-- `controller::feed_often` meets its contract.
 -- Assumes nothing.
 use Rattle.std.proofs.Common.{◌∙◌, arith}
 use Rattle.calls.specs.Call.{Feed}
