@@ -1,4 +1,4 @@
--- `serve_in_place` meets its contract.
+-- `mainloop::serve_in_place` meets its contract.
 -- Assumes nothing.
 use Rattle.std.proofs.Common.{ap, ◌∙◌, ◌+◌, ◌-◌, arith, rules}
 use Rattle.mainloop.specs.Kept.{served_from}
