@@ -30,7 +30,6 @@ use denote.Builtin.{u8, u32}
 use denote.Ref.{Bor, MutBor, MutRef}
 use denote.Slice.{slice_val, ShrSlice, shr_slice_copy}
 use denote.Steps.{owned, nothing}
-use denote.Struct.Laws as LL
 use denote.Triple.Statement.{Contract, Triple}
 use denote.Triple.Call.{calls_at}
 use denote.Triple.Clauses.{lasts}
@@ -40,6 +39,7 @@ use Rattle.borrowed.specs.Results.{answered-by, both_said}
 use Rattle.calls.specs.declared.Answer.{Answer}
 use Rattle.hub.specs.declared.Hub.{Hub}
 use Rattle.hub.specs.Hub.{feed_hub, close_hub}
+use Rattle.hub.proofs.InPlace.{hub_val, IsHub}
 use Rattle.calls.specs.contracts.Answer as S
 use Rattle.hub.specs.contracts.Hub as T
 use Rattle.hub.proofs.Hub.TheLaws as T'
@@ -47,13 +47,6 @@ use Rattle.hub.specs.contracts.in_place.feed as feed
 use Rattle.hub.proofs.in_place.feed.Symbol.{name as #feed}
 use Rattle.hub.specs.contracts.in_place.close as close
 use Rattle.hub.proofs.in_place.close.Symbol.{name as #close}
-
--- the machine value of a hub, and the relation of the two
-abbrev pub hub_val : Hub → Val
-hub_val = LL.val T.the_type T'.the_laws
-
-abbrev pub IsHub : Hub → Type 0
-IsHub t = Is T.the_row t (hub_val t ∷ [])
 
 -- the reference to a hub at (b, 0), under the name δ
 abbrev pub ref : ℕ → GName → Hub → MutBor Hub
