@@ -1,15 +1,20 @@
 -- `permutation::round_constant` meets its contract: its cases are rows of the table. One law serves all of them, and the checker computes each row's constant.
 -- Assumes nothing.
 use mathlib.Core.Path.{◌≡◌, refl, sym, ap, ◌∙◌}
-use Prim.Native.Nat.{ℕ}
+use Prim.Native.Nat.{ℕ, ◌<◌}
 use native.Mathlib.Omega.{arith}
 use lib.Dec.{T, ltb}
+use Rattle.word.proofs.Cases.{NoneBelow, none_below}
 use Rattle.permutation.specs.Permutation.{round_constant}
 use Rattle.permutation.proofs.round_constant.Goals as goal
 
 -- a case for row k: its constant is 240 - 15 * k, k is one of the twelve, and i is k. As i is never 12, only the second of these refuses a row 12
 row : {i constant : ℕ} (k : ℕ) → constant ≡ round_constant k → T (ltb k 12) → i ≡ k → constant ≡ round_constant i
 row k right numbered here = right ∙ ap round_constant (sym here)
+
+-- after the cases for 0 to 10 only 11 is left of the twelve
+eleven : {i : ℕ} → i < 12 → NoneBelow i 11 → i ≡ 11
+eleven few none = omega (arith, none_below 11 none)
 
 pub returns-in-0 : goal.returns-in-0
 returns-in-0 c = row 0 refl tt c.in-0.is
@@ -44,6 +49,5 @@ returns-in-9 c = row 9 refl tt c.in-9.is
 pub returns-in-10 : goal.returns-in-10
 returns-in-10 c = row 10 refl tt c.in-10.is
 
--- after the cases for 0 to 10 only 11 is left of the twelve
 pub returns-in-11-to-18446744073709551615 : goal.returns-in-11-to-18446744073709551615
-returns-in-11-to-18446744073709551615 c = row 11 refl tt (omega arith)
+returns-in-11-to-18446744073709551615 c = row 11 refl tt (search eleven)
