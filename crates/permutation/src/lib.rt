@@ -61,8 +61,7 @@ fn substitute(s: [u64; 5]) -> [u64; 5]
 // The constant of round i: table 3 of "Ascon PRF, MAC, and Short-Input MAC" (source document 003), a case for each row, in its order (the left half, then the
 // right) and with its digits. Twelve rounds begin with row 0; eight (request K1) begin with row 4 and six with row 6, as the table of the slides "ASCON" (source
 // document 001) shows beside these constants, which it prints with four zeros more. All end with row 11. Its case is `11..` since a match covers every number: i is
-// below 12, so only 11 is left. No tactic proves a case here: each of the twelve has its answer, and one more has none.
-#[tactic(none)]
+// below 12, so only 11 is left.
 fn round_constant(i: u64) -> u64
     requires { i < 12 }
     ensures { result ≡ spec.round_constant i }

@@ -49,7 +49,5 @@ returns-in-9 c = row 9 refl tt c.in-9.is
 pub returns-in-10 : goal.returns-in-10
 returns-in-10 c = row 10 refl tt c.in-10.is
 
--- The last case's goal is named by its range,
--- of which only 11 is below 12.
 pub returns-in-11-to-18446744073709551615 : goal.returns-in-11-to-18446744073709551615
 returns-in-11-to-18446744073709551615 c = row 11 refl tt (search eleven)
