@@ -21,22 +21,14 @@ module _ (k i start : ℕ) (whole : start % 8 ≡ 0) (from : start ≤ k + i) (t
   word : (k + i) / 8 ≡ start / 8
   word = omega arith
 
-  -- TODO-PORT raw
-
   places : 8 + 8 * (start + 8 - (k + (i + 1))) ≡ 8 * (start + 8 - (k + i))
   places = omega arith
-
-  -- TODO-PORT raw
 
   here : 8 * (7 - (k + i) % 8) ≡ 8 * (start + 8 - (k + (i + 1)))
   here = omega arith
 
-  -- TODO-PORT raw
-
   further : k + (i + 1) - start ≡ suc (k + i - start)
   further = omega arith
-
--- TODO-PORT raw
 
 pub loop-i-init : goal.loop-i-init
 loop-i-init c =
