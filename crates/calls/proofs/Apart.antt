@@ -1,5 +1,6 @@
 -- Tickets stand apart on the plain machine: the calls that name a ticket get what its entry alone decides.
 -- Assumes nothing.
+use Rattle.std.specs.Prelude.{Option, Some, None}
 use mathlib.Core.Bool.{Bool, true, false, cond, and-false, false≢true}
 use mathlib.Core.Path.{◌≡◌, refl, sym, ap, ap₂, ◌∙◌}
 use mathlib.Core.Logic.{◌≢◌}
@@ -9,12 +10,10 @@ use native.Mathlib.Omega.{arith}
 use borrow.Author.Tests.{eqb-true, eqb-false, ne_eqb}
 use lib.Dec.{eqb, leb}
 use lib.ListN.{length, drop}
+use Rattle.mode.specs.declared.Mode.{Mode}
 use Rattle.mode.specs.declared.Mode.TheVariants.{Prf}
-use Rattle.mode.specs.declared.Named.{Named}
-use Rattle.mode.specs.declared.Named.TheVariants.{Is, NoMode}
 use Rattle.mode.specs.Mode.{row, named}
-use Rattle.calls.specs.declared.Answer.{Answer}
-use Rattle.calls.specs.Answer.{counted, judged}
+use Rattle.calls.specs.Answer.{Answer, counted, judged}
 use Rattle.checks.specs.Checks.{OneCheck, checked}
 use Rattle.checks.specs.Buffers.{written}
 use Rattle.checks.specs.Equality.{same}
@@ -133,9 +132,9 @@ open-other t mode key tagLength m sound n =
     checked-each (Leaves t m) (open_checks (named mode tagLength) key tagLength (length m.entries) (leb most_open (open_count m))) (refuse m [])
     (admit (named mode tagLength) key m) (λ k. refl) (λ p. go (named mode tagLength))
   where
-    go : (mode : Named) → Leaves t m (admit mode key m)
-    go (Is mode) = new-other m sound mode key t n
-    go NoMode = refl
+    go : (mode : Option Mode) → Leaves t m (admit mode key m)
+    go (Some mode) = new-other m sound mode key t n
+    go None = refl
 
 pub call-other : (t : ℕ) (c : Call) (m : Machine) (e : Entry) → Sound m → all number t m.entries ≡ e ∷ [] → names t c ≡ false → Leaves t m (machine c m)
 unfolding machine feed_machine draw_machine check_machine close_machine sum_machine ticket_checks feed_checks draw_checks check_checks after_draw after_close after_check
@@ -207,9 +206,9 @@ gives t (Close u) r es = no_open t (record { call = Close u; response = r }) es 
 gives t Sum r es = no_open t (record { call = Sum; response = r }) es (λ i. refl) refl
 
 -- the entry of a ticket as its open leaves it. That no mode is named does not occur
-abbrev begun : ℕ → Named → List ℕ → Entry
-begun t (Is mode) key = new_entry t mode key
-begun t NoMode key = new_entry t Prf key
+abbrev begun : ℕ → Option Mode → List ℕ → Entry
+begun t (Some mode) key = new_entry t mode key
+begun t None key = new_entry t Prf key
 
 -- an accepted open that gives ticket t makes this entry
 open-same : (t mode : ℕ) (key : List ℕ) (tagLength : ℕ) (m : Machine) → Sound m
@@ -221,7 +220,7 @@ open-same t mode key tagLength m sound =
     ((λ q. omega arith), ((λ q. omega arith), ((λ q. omega arith), ((λ q. omega arith), ((λ q. omega arith), tt)))))
     (λ k z q. absurd (false≢true (rw (ne_eqb k 0 z) at q))) (λ p. go meant)
   where
-    meant : Named
+    meant : Option Mode
     meant = named mode tagLength
 
     On : Step Machine → Type 0
@@ -230,12 +229,12 @@ open-same t mode key tagLength m sound =
     P : Step Machine → Type 0
     P s = On s → all number t s.after.entries ≡ begun t meant key ∷ []
 
-    go : (n : Named) → On (admit n key m) → all number t (admit n key m).after.entries ≡ begun t n key ∷ []
-    go (Is mode) q = rw (← eqb-true m.next t q) (new-here m sound mode key)
-    go NoMode q = absurd (false≢true q)
+    go : (n : Option Mode) → On (admit n key m) → all number t (admit n key m).after.entries ≡ begun t n key ∷ []
+    go (Some mode) q = rw (← eqb-true m.next t q) (new-here m sound mode key)
+    go None q = absurd (false≢true q)
 
 -- the calls that name the ticket from then on get what they get on its new entry alone
-issued-alone : (t : ℕ) (mode : Named) (key : List ℕ) (calls : List Call) (m : Machine) → Sound m → issue_of t (events machine m calls) ≡ issued_by mode key
+issued-alone : (t : ℕ) (mode : Option Mode) (key : List ℕ) (calls : List Call) (m : Machine) → Sound m → issue_of t (events machine m calls) ≡ issued_by mode key
     → naming t (after_issue t (events machine m calls)) ≡ alone (begun t mode key) (calls_of (naming t (after_issue t (events machine m calls))))
 unfolding machine events naming calls_of after_issue
 issued-alone t mode key [] m sound issued = refl
@@ -259,7 +258,7 @@ issued-alone t mode key (c ∷ cs) m sound issued =
         let keys : k ≡ key = cc in
         rw a
         (entered-alone t cs (machine c m).after (begun t mode key) (sound-step c m sound)
-        (rw is (open-same t n k l m sound (rw is at on) ∙ ap₂ (λ (x : Named) (y : List ℕ). begun t x y ∷ []) meant keys)))
+        (rw is (open-same t n k l m sound (rw is at on) ∙ ap₂ (λ (x : Option Mode) (y : List ℕ). begun t x y ∷ []) meant keys)))
 
 -- so two lists with the same issue and the same calls give the same
 pub machine_apart : Apart machine empty_machine

@@ -10,8 +10,7 @@ use Rattle.mode.specs.declared.Mode.{Mode}
 use Rattle.mode.specs.declared.Mode.TheVariants.{Mac}
 use Rattle.mode.specs.Mode.{row, named}
 use Rattle.sponge.specs.Sponge.{ceiling, start, one_shot, runs_feeding, runs_ended}
-use Rattle.calls.specs.declared.Answer.{Answer}
-use Rattle.calls.specs.Answer.{refused, opened, counted, judged, summed}
+use Rattle.calls.specs.Answer.{Answer, refused, opened, counted, judged, summed}
 use Rattle.checks.specs.Equality.{same}
 use Rattle.calls.specs.Checks.{open_checks, ticket_checks, feed_own, feed_checks, draw_own, draw_checks, check_own, check_checks}
 use Rattle.calls.specs.Call.{Call, Open, Feed, Draw, Check, Close, Sum, Event, events}
@@ -170,7 +169,7 @@ pub answers : (refused 5 ≡ record { refusal = 5; ticket = 0; runs = 0; passed 
     × (summed 10 ≡ record { refusal = 0; ticket = 0; runs = 0; passed = false; sum = 10 })
 answers = (refl, refl, refl, refl, refl)
 
--- the formula, whatever the key: 1 + floor(n / R), and floor(n / R) + 1 + max(1, ceiling(d / r)) once feeding has ended
+-- for the reader: the formula, whatever the key: 1 + floor(n / R), and floor(n / R) + 1 + max(1, ceiling(d / r)) once feeding has ended
 pub formula-is : (mode : Mode) (key : List ℕ) (n d : ℕ)
     → (formula mode key true n d ≡ 1 + n / (row mode).feed_rate)
     × (formula mode key false n d ≡ n / (row mode).feed_rate + 1 + max 1 (ceiling d (row mode).draw_rate))

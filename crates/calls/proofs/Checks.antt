@@ -1,5 +1,6 @@
 -- The checks that every call on a ticket begins with: what is answered where one fails; and what an open's check 21 shows.
 -- Assumes nothing.
+use Rattle.std.specs.Prelude.{Option, Some, None}
 use mathlib.Core.Bool.{Bool, true, false, ◌||◌, true≢false}
 use mathlib.Core.Path.{◌≡◌, refl, sym, ◌∙◌}
 use mathlib.Core.Logic.{◌≢◌}
@@ -8,8 +9,6 @@ use Prim.Native.Nat.{ℕ, ◌≤◌}
 use borrow.Author.Tests.{ltb-false, ne_eqb}
 use lib.Dec.{ltb}
 use Rattle.mode.specs.declared.Mode.{Mode}
-use Rattle.mode.specs.declared.Named.{Named}
-use Rattle.mode.specs.declared.Named.TheVariants.{Is, NoMode}
 use Rattle.mode.specs.Mode.{row, number_of, named}
 use Rattle.mode.proofs.Modes.{number_is, length_ignored, length-kept}
 use Rattle.checks.specs.Checks.{OneCheck, checked}
@@ -41,7 +40,7 @@ second-false true b h = absurd (true≢false h)
 second-false false b h = h
 
 -- so it is where 21 passes
-pub tagged : (n tagLength : ℕ) (mode : Mode) → named n tagLength ≡ Is mode → wrong_tag_length (Is mode) tagLength ≡ false → Tagged mode
+pub tagged : (n tagLength : ℕ) (mode : Mode) → named n tagLength ≡ Some mode → wrong_tag_length (Some mode) tagLength ≡ false → Tagged mode
 tagged n tagLength mode h pass two =
     rw (length-kept n tagLength mode h two)
     (ltb-false _ _ (second-false (ltb tagLength shortest_tag) (ltb longest_tag tagLength) (rw two at pass)))
@@ -52,6 +51,6 @@ pub checks_ignore : (n a b : ℕ) → n ≢ 2 → (key : List ℕ) (issued : ℕ
 unfolding open_checks
 checks_ignore n a b other key issued full = rw (length_ignored n a b other) (go (named n b) refl)
   where
-    go : (x : Named) → named n b ≡ x → open_checks x key a issued full ≡ open_checks x key b issued full
-    go (Is mode) h = rw (ne_eqb (number_of mode) 2 (λ two. other (sym (number_is n b mode h) ∙ two)))
-    go NoMode h = refl
+    go : (x : Option Mode) → named n b ≡ x → open_checks x key a issued full ≡ open_checks x key b issued full
+    go (Some mode) h = rw (ne_eqb (number_of mode) 2 (λ two. other (sym (number_is n b mode h) ∙ two)))
+    go None h = refl

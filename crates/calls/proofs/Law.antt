@@ -1,12 +1,12 @@
 -- The law of the plain machine, over any list of calls.
 -- Assumes nothing.
+use Rattle.std.specs.Prelude.{Some}
 use mathlib.Core.Bool.{Bool, true, false, false≢true}
 use mathlib.Core.Path.{◌≡◌, refl, sym, ap, ap₂, ◌∙◌, fun_ext}
 use mathlib.Core.List.{List, [], ◌∷◌}
 use Prim.Native.Nat.{ℕ}
 use lib.ListN.{length}
 use Rattle.mode.specs.declared.Mode.{Mode}
-use Rattle.mode.specs.declared.Named.TheVariants.{Is}
 use Rattle.mode.specs.Mode.{row}
 use Rattle.sponge.specs.Sponge.{one_shot}
 use Rattle.calls.specs.Answer.{summed}
@@ -35,7 +35,7 @@ is_issued unissued = false
 is_issued (issued_by mode key) = true
 
 -- an entry meets the claim for its own mode and key
-entry_claim : (mode : Mode) (key : List ℕ) (es : List Entry) → (reading_of es).issue ≡ issued_by (Is mode) key → Claim mode key (reading_of es)
+entry_claim : (mode : Mode) (key : List ℕ) (es : List Entry) → (reading_of es).issue ≡ issued_by (Some mode) key → Claim mode key (reading_of es)
 unfolding reading_of is_issued output_of runs_of
 entry_claim mode key [] h = absurd (false≢true (ap is_issued h))
 entry_claim mode key (e ∷ es) h = record {
@@ -74,7 +74,7 @@ module _ (calls : List Call) where
   unfolding reading list end
   entry-says t e h = list-says t ∙ ap reading_of h
 
-  ticket_claim : (t : ℕ) (mode : Mode) (key : List ℕ) → (read_on t list unread).issue ≡ issued_by (Is mode) key → Claim mode key (read_on t list unread)
+  ticket_claim : (t : ℕ) (mode : Mode) (key : List ℕ) → (read_on t list unread).issue ≡ issued_by (Some mode) key → Claim mode key (read_on t list unread)
   unfolding reading
   ticket_claim t mode key = rw (list-says t) (entry_claim mode key (all number t end.entries))
 

@@ -1,6 +1,6 @@
 -- Crate `calls`: its laws.
+pub mod Answers
 pub mod Keyed
-pub mod Walks
 pub mod Checks
 pub mod Output
 pub mod Entries

@@ -1,5 +1,6 @@
 -- What a call on a sound machine comes to: it is refused, a ticket is issued, the entry of an open ticket is changed, or the sum is given.
 -- Assumes nothing.
+use Rattle.std.specs.Prelude.{Option, Some, None}
 use mathlib.Core.Bool.{Bool, true, false, false≢true}
 use mathlib.Core.Path.{◌≡◌, refl, sym, ◌∙◌}
 use mathlib.Core.Logic.{◌≢◌}
@@ -10,8 +11,6 @@ use borrow.Author.Tests.{ne_eqb, ltb-false, leb-false, not-false}
 use lib.Dec.{leb}
 use lib.ListN.{length, drop}
 use Rattle.mode.specs.declared.Mode.{Mode}
-use Rattle.mode.specs.declared.Named.{Named}
-use Rattle.mode.specs.declared.Named.TheVariants.{Is, NoMode}
 use Rattle.mode.specs.Mode.{row, named}
 use Rattle.calls.specs.Answer.{accepted, opened, counted, judged}
 use Rattle.calls.specs.Call.{Call, Open, Feed, Draw, Check, Close, Sum, Step, step, refuse}
@@ -59,7 +58,7 @@ judges t tag m e =
 -- each way out of a call, with what the checks have shown
 pub data Outcome (m : Machine) : Call → Step Machine → Type 0 where
   refuses : (c : Call) (buffer : List ℕ) (n : ℕ) → n ≢ 0 → Outcome m c (refuse m buffer n)
-  issues : (n : ℕ) (mode : Mode) (key : List ℕ) (tagLength : ℕ) → named n tagLength ≡ Is mode → Tagged mode → length m.entries < most_issued
+  issues : (n : ℕ) (mode : Mode) (key : List ℕ) (tagLength : ℕ) → named n tagLength ≡ Some mode → Tagged mode → length m.entries < most_issued
       → Outcome m (Open n key tagLength)
       (step (record { next = m.next + 1; entries = m.entries ++ (new_entry m.next mode key ∷ []) })
       (opened m.next (runs_of (new_entry m.next mode key))) [])
@@ -93,14 +92,14 @@ open-outcome : (n : ℕ) (key : List ℕ) (tagLength : ℕ) (m : Machine) → Ou
 unfolding open_machine open_checks admit
 open-outcome n key tagLength m = go (named n tagLength) refl
   where
-    go : (x : Named) → named n tagLength ≡ x
+    go : (x : Option Mode) → named n tagLength ≡ x
         → Outcome m (Open n key tagLength) (checked (refuse m []) (open_checks x key tagLength (length m.entries) (leb most_open (open_count m))) (admit x key m))
-    go (Is mode) h =
-        checked_nonzero (Outcome m (Open n key tagLength)) (open_checks (Is mode) key tagLength (length m.entries) (leb most_open (open_count m))) (refuse m [])
-        (admit (Is mode) key m) (λ z. omega arith, (λ z. omega arith, (λ z. omega arith, (λ z. omega arith, (λ z. omega arith, tt)))))
+    go (Some mode) h =
+        checked_nonzero (Outcome m (Open n key tagLength)) (open_checks (Some mode) key tagLength (length m.entries) (leb most_open (open_count m))) (refuse m [])
+        (admit (Some mode) key m) (λ z. omega arith, (λ z. omega arith, (λ z. omega arith, (λ z. omega arith, (λ z. omega arith, tt)))))
         (refuses (Open n key tagLength) [])
         (λ pass. issues n mode key tagLength h (tagged n tagLength mode h pass.1.1.0) (leb-false _ _ pass.1.1.1.0))
-    go NoMode h = refuses (Open n key tagLength) [] 1 (λ z. omega arith)
+    go None h = refuses (Open n key tagLength) [] 1 (λ z. omega arith)
 
 pub outcome : (c : Call) (m : Machine) → Sound m → Outcome m c (machine c m)
 unfolding machine feed_machine draw_machine check_machine close_machine feed_checks feed_own draw_checks draw_own check_checks check_own ticket_checks after_draw after_close after_check

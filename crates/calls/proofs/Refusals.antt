@@ -2,6 +2,7 @@
 -- short for some.
 -- For each list of checks the laws take all cases, one after the other in the list's order. What is answered is any function of the number.
 -- Assumes nothing.
+use Rattle.std.specs.Prelude.{Some, None}
 use mathlib.Core.Bool.{Bool, true, false, cond, or-true, and-false}
 use mathlib.Core.Path.{◌≡◌, refl}
 use mathlib.Core.Logic.{◌≢◌}
@@ -13,7 +14,6 @@ use lib.Dec.{leb}
 use lib.ListN.{length}
 use Rattle.mode.specs.declared.Mode.{Mode}
 use Rattle.mode.specs.declared.Mode.TheVariants.{Prf, Mac, Hash, Xof, HashA, XofA}
-use Rattle.mode.specs.declared.Named.TheVariants.{Is, NoMode}
 use Rattle.mode.specs.Mode.{row, number_of, named}
 use Rattle.calls.specs.Call.{refuse}
 use Rattle.checks.specs.Checks.{OneCheck, checked}
@@ -38,11 +38,11 @@ most-drawn Xof = refl
 most-drawn HashA = refl
 most-drawn XofA = refl
 
--- the tag lengths that are not wrong: 8 to 16 in mode 2, and any in another mode
-pub right-length : (mode : Mode) (tagLength : ℕ) → 8 ≤ tagLength → tagLength ≤ 16 → wrong_tag_length (Is mode) tagLength ≡ false
+-- for the reader: the tag lengths that are not wrong: 8 to 16 in mode 2, and any in another mode
+pub right-length : (mode : Mode) (tagLength : ℕ) → 8 ≤ tagLength → tagLength ≤ 16 → wrong_tag_length (Some mode) tagLength ≡ false
 right-length mode tagLength low high = rw (le-ltb tagLength 8 low, le-ltb 16 tagLength high, and-false)
 
-pub any-length : (mode : Mode) (tagLength : ℕ) → number_of mode ≢ 2 → wrong_tag_length (Is mode) tagLength ≡ false
+pub any-length : (mode : Mode) (tagLength : ℕ) → number_of mode ≢ 2 → wrong_tag_length (Some mode) tagLength ≡ false
 any-length mode tagLength other = rw (ne_eqb (number_of mode) 2 other)
 
 -- the standing of an open ticket
@@ -58,39 +58,39 @@ module _ {A : Type 0} (answer : ℕ → A) (done : A) where
 
   module _ (key : List ℕ) (tagLength issued : ℕ) (full : Bool) where
     -- whatever the key and the tag length
-    pub open_1 : outcome (open_checks NoMode key tagLength issued full) ≡ answer 1
+    pub open_1 : outcome (open_checks None key tagLength issued full) ≡ answer 1
     unfolding open_checks
     open_1 = refl
 
     -- whatever the tag length, however many are issued and open
-    pub open_2 : (mode : Mode) → length key ≢ (row mode).key_length → outcome (open_checks (Is mode) key tagLength issued full) ≡ answer 2
+    pub open_2 : (mode : Mode) → length key ≢ (row mode).key_length → outcome (open_checks (Some mode) key tagLength issued full) ≡ answer 2
     unfolding open_checks
     open_2 mode wrong = rw (ne_eqb (length key) (row mode).key_length wrong)
 
     -- however many are issued and open
-    pub open_21_short : length key ≡ 16 → tagLength < 8 → outcome (open_checks (Is (Mac tagLength)) key tagLength issued full) ≡ answer 21
+    pub open_21_short : length key ≡ 16 → tagLength < 8 → outcome (open_checks (Some (Mac tagLength)) key tagLength issued full) ≡ answer 21
     unfolding open_checks
     open_21_short right short = rw (eq-eqb (length key) 16 right, lt-ltb tagLength 8 short)
 
-    pub open_21_long : length key ≡ 16 → 16 < tagLength → outcome (open_checks (Is (Mac tagLength)) key tagLength issued full) ≡ answer 21
+    pub open_21_long : length key ≡ 16 → 16 < tagLength → outcome (open_checks (Some (Mac tagLength)) key tagLength issued full) ≡ answer 21
     unfolding open_checks
     open_21_long right long = rw (eq-eqb (length key) 16 right, lt-ltb 16 tagLength long, or-true)
 
     -- where there is no wrong tag length: whether there is a place or not
-    pub open_14 : (mode : Mode) → length key ≡ (row mode).key_length → wrong_tag_length (Is mode) tagLength ≡ false → 4294967295 ≤ issued
-        → outcome (open_checks (Is mode) key tagLength issued full) ≡ answer 14
+    pub open_14 : (mode : Mode) → length key ≡ (row mode).key_length → wrong_tag_length (Some mode) tagLength ≡ false → 4294967295 ≤ issued
+        → outcome (open_checks (Some mode) key tagLength issued full) ≡ answer 14
     unfolding open_checks
     open_14 mode right tags all = rw (eq-eqb (length key) (row mode).key_length right, tags, le-leb 4294967295 issued all)
 
     -- as long as a number is left
-    pub open_13 : (mode : Mode) → length key ≡ (row mode).key_length → wrong_tag_length (Is mode) tagLength ≡ false → issued < 4294967295
-        → outcome (open_checks (Is mode) key tagLength issued full) ≡ cond full (answer 13) done
+    pub open_13 : (mode : Mode) → length key ≡ (row mode).key_length → wrong_tag_length (Some mode) tagLength ≡ false → issued < 4294967295
+        → outcome (open_checks (Some mode) key tagLength issued full) ≡ cond full (answer 13) done
     unfolding open_checks
     open_13 mode right tags room = rw (eq-eqb (length key) (row mode).key_length right, tags, lt-leb 4294967295 issued room)
 
   -- ---- a call on a ticket: 11, 12
 
-  -- a list of checks begins with these
+  -- for the reader: a list of checks begins with these
   abbrev pub Begins : (Standing → List OneCheck) → Type 0
   Begins cs =
       (s : Standing)
@@ -166,22 +166,22 @@ module _ {A : Type 0} (answer : ℕ → A) (done : A) where
     unfolding ticket_checks
     close-done mode = refl
 
--- ---- the last ticket, on the plain machine
+-- ---- for the reader: the last ticket, on the plain machine
 
 -- an open that names a mode with a right key and tag length
-module _ (n : ℕ) (key : List ℕ) (tagLength : ℕ) (m : Machine) (mode : Mode) (meant : named n tagLength ≡ Is mode) (right : length key ≡ (row mode).key_length)
-    (tags : wrong_tag_length (Is mode) tagLength ≡ false) where
+module _ (n : ℕ) (key : List ℕ) (tagLength : ℕ) (m : Machine) (mode : Mode) (meant : named n tagLength ≡ Some mode) (right : length key ≡ (row mode).key_length)
+    (tags : wrong_tag_length (Some mode) tagLength ≡ false) where
   -- all are issued, whether there is a place or not
   pub all-issued : length m.entries ≡ 4294967295 → open_machine n key tagLength m ≡ refuse m [] 14
   unfolding open_machine
   all-issued all =
       rw meant
-      (open_14 (refuse m []) (admit (Is mode) key m) key tagLength (length m.entries) (leb most_open (open_count m)) mode right tags (omega arith))
+      (open_14 (refuse m []) (admit (Some mode) key m) key tagLength (length m.entries) (leb most_open (open_count m)) mode right tags (omega arith))
 
   -- one is left: it is issued unless 16 are open
   pub one_left : length m.entries ≡ 4294967294
-      → open_machine n key tagLength m ≡ cond (leb 16 (open_count m)) (refuse m [] 13) (admit (Is mode) key m)
+      → open_machine n key tagLength m ≡ cond (leb 16 (open_count m)) (refuse m [] 13) (admit (Some mode) key m)
   unfolding open_machine
   one_left one =
       rw meant
-      (open_13 (refuse m []) (admit (Is mode) key m) key tagLength (length m.entries) (leb most_open (open_count m)) mode right tags (omega arith))
+      (open_13 (refuse m []) (admit (Some mode) key m) key tagLength (length m.entries) (leb most_open (open_count m)) mode right tags (omega arith))

@@ -1,5 +1,6 @@
 -- What a list of calls says of a ticket is what the plain machine's entry holds: call by call, and so after the list.
 -- Assumes nothing.
+use Rattle.std.specs.Prelude.{Option, Some}
 use mathlib.Core.Bool.{Bool, true, false, ◌&&◌, and-true, and-false}
 use mathlib.Core.Path.{◌≡◌, refl, sym, ap, ◌∙◌}
 use mathlib.Core.Logic.{◌≢◌}
@@ -10,12 +11,9 @@ use borrow.Author.Tests.{eqb-true, eqb-false, ne_eqb}
 use lib.Dec.{eqb}
 use lib.ListN.{length, take, drop}
 use Rattle.mode.specs.declared.Mode.{Mode}
-use Rattle.mode.specs.declared.Named.{Named}
-use Rattle.mode.specs.declared.Named.TheVariants.{Is}
 use Rattle.mode.specs.Mode.{named}
 use Rattle.sponge.specs.Sponge.{squeeze_bytes, output, one_shot}
-use Rattle.calls.specs.declared.Answer.{Answer}
-use Rattle.calls.specs.Answer.{refused, opened, counted, judged}
+use Rattle.calls.specs.Answer.{Answer, refused, opened, counted, judged}
 use Rattle.calls.specs.Call.{Call, Open, Feed, Draw, Check, Close, Sum, Step, step, refuse, Response, Event, events, final}
 use Rattle.checks.specs.Buffers.{written}
 use Rattle.calls.specs.Lists.{concerns, is_on, issued_by}
@@ -32,7 +30,7 @@ use Rattle.calls.proofs.Readings.{Reading, unread, reading_path, read_on, read_c
 unfoldable pub reading_of : List Entry → Reading
 reading_of [] = unread
 reading_of (e ∷ es) =
-    record { issue = issued_by (Is e.mode) e.key; fed = e.fed; drawn = output_of e e.drawn; feeding = e.feeding; runs = runs_of e }
+    record { issue = issued_by (Some e.mode) e.key; fed = e.fed; drawn = output_of e e.drawn; feeding = e.feeding; runs = runs_of e }
 
 unfoldable pub reading : ℕ → Machine → Reading
 reading t m = reading_of (all number t m.entries)
@@ -73,13 +71,13 @@ unfolding output_of one_shot output squeeze_bytes
 no_output e = refl
 
 -- an accepted open begins what is said of its ticket
-reads-new : (m : Machine) → Sound m → (n : ℕ) (mode : Mode) (key : List ℕ) (tagLength : ℕ) → named n tagLength ≡ Is mode
+reads-new : (m : Machine) → Sound m → (n : ℕ) (mode : Mode) (key : List ℕ) (tagLength : ℕ) → named n tagLength ≡ Some mode
     → Reads m (Open n key tagLength) (step (with_new mode key m) (opened m.next (runs_of (new_entry m.next mode key))) [])
 unfolding reading read_call reading_of new_entry
 reads-new m s n mode key tagLength h =
     reads-one m (Open n key tagLength) _ m.next (λ t. refl)
     (rw (s.above m.next (le_refl m.next), new-here m s mode key)
-    (reading_path (ap (λ (x : Named). issued_by x key) h) refl (sym (no_output (new_entry m.next mode key))) refl refl))
+    (reading_path (ap (λ (x : Option Mode). issued_by x key) h) refl (sym (no_output (new_entry m.next mode key))) refl refl))
     (λ t n. new-other m s mode key t (λ z. n (sym z)))
 
 -- a sum is on no ticket

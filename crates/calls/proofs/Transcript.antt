@@ -1,5 +1,6 @@
 -- One list of calls, and all that specs/Lists.antt reads off it, computed by the checker: refused calls, tickets by turns, draws inside their buffers.
 -- Assumes nothing.
+use Rattle.std.specs.Prelude.{Some}
 use mathlib.Core.Bool.{true, false}
 use mathlib.Core.Path.{◌≡◌, refl}
 use mathlib.Core.List.{List, [], ◌∷◌, map}
@@ -8,7 +9,6 @@ use Rattle.word.specs.Word.{bit, word, number, column, rotr}
 use Rattle.word.specs.Bytes.{weight, byte_at, bytes_from, xor_word, xor_at, xor_from, from_bytes, to_bytes, words_of, zeros_to}
 use Rattle.permutation.specs.Permutation.{sbox, add_constant, at_every_place, substitute, mix, diffuse, round, permute}
 use Rattle.mode.specs.declared.Mode.TheVariants.{Mac, Hash}
-use Rattle.mode.specs.declared.Named.TheVariants.{Is}
 use Rattle.mode.specs.Mode.{named}
 use Rattle.sponge.specs.Sponge.{ceiling, initial, start, pad, cut, blocks, flip_if, absorb_blocks, absorb_message, squeeze_blocks, squeeze_bytes, output, one_shot, runs_feeding, runs_ended}
 use Rattle.calls.specs.Answer.{refused, counted}
@@ -44,8 +44,8 @@ tickets-read = refl
 
 -- of each ticket: what its open named, the bytes fed, whether feeding lasts, the run count, the bytes drawn
 pub ticket-read :
-    (issue_of 0 list ≡ unissued) × (issue_of 1 list ≡ issued_by (Is Hash) []) × (issue_of 2 list ≡ issued_by (Is (Mac 16)) key)
-    × (issue_of 3 list ≡ issued_by (Is (Mac 8)) key) × (issue_of 4 list ≡ unissued)
+    (issue_of 0 list ≡ unissued) × (issue_of 1 list ≡ issued_by (Some Hash) []) × (issue_of 2 list ≡ issued_by (Some (Mac 16)) key)
+    × (issue_of 3 list ≡ issued_by (Some (Mac 8)) key) × (issue_of 4 list ≡ unissued)
     × (bytes_fed 1 list ≡ 1 ∷ 2 ∷ 3 ∷ 4 ∷ 5 ∷ 6 ∷ 7 ∷ 8 ∷ 9 ∷ []) × (bytes_fed 2 list ≡ []) × (bytes_fed 3 list ≡ [])
     × (feeding_lasts 1 list ≡ true) × (feeding_lasts 2 list ≡ false) × (feeding_lasts 3 list ≡ false)
     × (run_count 1 list ≡ 2) × (run_count 2 list ≡ 2) × (run_count 3 list ≡ 2) × (run_count 4 list ≡ 0)

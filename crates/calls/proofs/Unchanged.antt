@@ -1,13 +1,13 @@
 -- A refused call changes nothing: what holds of any machine that answers behind checks, and the plain machine.
 -- Assumes nothing.
+use Rattle.std.specs.Prelude.{Option, Some, None}
 use mathlib.Core.Bool.{false, true≢false}
 use mathlib.Core.Path.{◌≡◌, refl}
 use mathlib.Core.List.{List, []}
 use Prim.Native.Nat.{ℕ}
 use lib.ListN.{length}
 use lib.Dec.{leb}
-use Rattle.mode.specs.declared.Named.{Named}
-use Rattle.mode.specs.declared.Named.TheVariants.{Is, NoMode}
+use Rattle.mode.specs.declared.Mode.{Mode}
 use Rattle.mode.specs.Mode.{named}
 use Rattle.checks.specs.Checks.{OneCheck, checked}
 use Rattle.checks.proofs.Checks.{checked-each}
@@ -32,9 +32,9 @@ machine-refused-keeps (Open mode key tagLength) m =
     checked-keeps m [] (open_checks (named mode tagLength) key tagLength (length m.entries) (leb most_open (open_count m))) (admit (named mode tagLength) key m)
     (go (named mode tagLength))
   where
-    go : (x : Named) → Keeps m (admit x key m)
-    go (Is y) z = absurd (true≢false z)
-    go NoMode z = refl
+    go : (x : Option Mode) → Keeps m (admit x key m)
+    go (Some y) z = absurd (true≢false z)
+    go None z = refl
 machine-refused-keeps (Feed t bytes) m = checked-keeps m [] (feed_checks (standing_of t m) bytes) _ (λ z. absurd (true≢false z))
 machine-refused-keeps (Draw t buffer place count) m = checked-keeps m buffer (draw_checks (standing_of t m) buffer place count) _ (λ z. absurd (true≢false z))
 machine-refused-keeps (Check t tag) m = checked-keeps m [] (check_checks (standing_of t m) tag) _ (λ z. absurd (true≢false z))

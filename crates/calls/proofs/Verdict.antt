@@ -1,5 +1,6 @@
 -- The verdict on the plain machine: an accepted check passes exactly where the tag is the MAC.
 -- Assumes nothing.
+use Rattle.std.specs.Prelude.{Some}
 use mathlib.Core.Bool.{true}
 use mathlib.Core.Path.{◌≡◌, sym, ap, ap₂, ◌∙◌}
 use mathlib.Core.List.{List, [], ◌∷◌}
@@ -8,7 +9,6 @@ use Rattle.checks.specs.Equality.{same}
 use Rattle.checks.proofs.Equality.{equal-same, other-same}
 use Rattle.mode.specs.declared.Mode.{Mode}
 use Rattle.mode.specs.declared.Mode.TheVariants.{Mac}
-use Rattle.mode.specs.declared.Named.TheVariants.{Is}
 use Rattle.mode.specs.Mode.{row}
 use Rattle.sponge.specs.Sponge.{one_shot}
 use Rattle.calls.specs.Answer.{accepted}
@@ -24,7 +24,7 @@ use Rattle.calls.proofs.Sound.{sound_empty, sound-final}
 use Rattle.calls.proofs.Tickets.{reading_of}
 use Rattle.calls.proofs.Law.{entry-says}
 
-module _ (calls : List Call) (t own : ℕ) (key tag : List ℕ) (issued : issue_of t (events machine empty_machine calls) ≡ issued_by (Is (Mac own)) key) where
+module _ (calls : List Call) (t own : ℕ) (key tag : List ℕ) (issued : issue_of t (events machine empty_machine calls) ≡ issued_by (Some (Mac own)) key) where
   abbrev end : Machine
   end = final machine empty_machine calls
 
@@ -36,7 +36,7 @@ module _ (calls : List Call) (t own : ℕ) (key tag : List ℕ) (issued : issue_
   unfolding read_on reading_of output_of after_draw after_close after_check
   whole e h =
       let says : read_on t (events machine empty_machine calls) unread ≡ reading_of (e ∷ []) = entry-says calls t e h in
-      let same-issue : issued_by (Is e.mode) e.key ≡ issued_by (Is (Mac own)) key = sym (ap (λ (x : Reading). x.issue) says) ∙ issued in
+      let same-issue : issued_by (Some e.mode) e.key ≡ issued_by (Some (Mac own)) key = sym (ap (λ (x : Reading). x.issue) says) ∙ issued in
       let modes : e.mode ≡ Mac own = cc in
       let keys : e.key ≡ key = cc in
       ap₂ (λ (a : Mode) (k : List ℕ). one_shot (row a) k e.fed (row a).most_drawn) modes keys

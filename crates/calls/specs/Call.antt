@@ -1,8 +1,7 @@
 -- The six calls as values, and lists of them, each call on what the call before it returned: document 01's "Lists of calls".
 -- Assumes nothing.
 use Rattle.std.specs.Prelude.{List, [], ◌∷◌, ℕ}
-use Rattle.calls.specs.declared.Answer.{Answer}
-use Rattle.calls.specs.Answer.{refused}
+use Rattle.calls.specs.Answer.{Answer, refused}
 
 -- all arguments are values, a draw's buffer as it was lent among them
 pub data Call : Type 0 where

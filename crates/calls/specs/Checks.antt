@@ -1,10 +1,8 @@
 -- The checks of document 01's "Tickets" and request K2's 21, each call's in its order, with the numbers of "Refused". The hub and the plain machine answer by
 -- these same lists: what the checks ask about a ticket is its standing, which each of the two works out in its own way.
 -- Assumes nothing.
-use Rattle.std.specs.Prelude.{Bool, true, false, not, ◌&&◌, ◌||◌, List, [], ◌∷◌, ◌++◌, ℕ, ◌+◌, eqb, leb, ltb, length}
+use Rattle.std.specs.Prelude.{Bool, true, false, not, ◌&&◌, ◌||◌, List, [], ◌∷◌, ◌++◌, ℕ, ◌+◌, eqb, leb, ltb, length, Option, Some, None}
 use Rattle.mode.specs.declared.Mode.{Mode}
-use Rattle.mode.specs.declared.Named.{Named}
-use Rattle.mode.specs.declared.Named.TheVariants.{Is, NoMode}
 use Rattle.mode.specs.Mode.{row, number_of}
 use Rattle.checks.specs.Checks.{OneCheck, refusal}
 
@@ -32,22 +30,22 @@ longest_tag = 16
 -- ---- open: 1, 2, 21, 14, 13
 
 -- a number that is not 1 to 6 names no mode
-abbrev pub names_none : Named → Bool
-names_none (Is mode) = false
-names_none NoMode = true
+abbrev pub names_none : Option Mode → Bool
+names_none (Some mode) = false
+names_none None = true
 
 -- a key has not the length of its mode. No key is right for no mode
-abbrev pub wrong_key : Named → List ℕ → Bool
-wrong_key (Is mode) key = not (eqb (length key) (row mode).key_length)
-wrong_key NoMode key = true
+abbrev pub wrong_key : Option Mode → List ℕ → Bool
+wrong_key (Some mode) key = not (eqb (length key) (row mode).key_length)
+wrong_key None key = true
 
 -- a tag length of mode 2 is not 8 to 16. In every other mode any is right, for no mode none is
-abbrev pub wrong_tag_length : Named → ℕ → Bool
-wrong_tag_length (Is mode) tagLength = eqb (number_of mode) 2 && (ltb tagLength shortest_tag || ltb longest_tag tagLength)
-wrong_tag_length NoMode tagLength = true
+abbrev pub wrong_tag_length : Option Mode → ℕ → Bool
+wrong_tag_length (Some mode) tagLength = eqb (number_of mode) 2 && (ltb tagLength shortest_tag || ltb longest_tag tagLength)
+wrong_tag_length None tagLength = true
 
 -- how many tickets were issued; whether as many are open as there are places
-unfoldable pub open_checks : Named → List ℕ → ℕ → ℕ → Bool → List OneCheck
+unfoldable pub open_checks : Option Mode → List ℕ → ℕ → ℕ → Bool → List OneCheck
 open_checks mode key tagLength issued full =
     refusal 1 (names_none mode) ∷ refusal 2 (wrong_key mode key) ∷ refusal 21 (wrong_tag_length mode tagLength) ∷ refusal 14 (leb most_issued issued) ∷ refusal 13 full ∷ []
 

@@ -1,11 +1,9 @@
 -- Document 01's third demand, that a refused call changes nothing, what request K2 says of tag lengths and verdicts, and what request K4 says of a check, as
 -- statements about anything that answers calls: S is a hub, or another machine, `run` what a call makes of it and `empty` what a list begins with.
 -- Assumes nothing.
-use Rattle.std.specs.Prelude.{true, false, ◌≡◌, ◌≢◌, List, [], ◌∷◌, ℕ, zero, suc, ◌+◌, length}
+use Rattle.std.specs.Prelude.{true, false, ◌≡◌, ◌≢◌, List, [], ◌∷◌, ℕ, zero, suc, ◌+◌, length, Option, Some}
 use Rattle.mode.specs.declared.Mode.{Mode}
 use Rattle.mode.specs.declared.Mode.TheVariants.{Mac}
-use Rattle.mode.specs.declared.Named.{Named}
-use Rattle.mode.specs.declared.Named.TheVariants.{Is}
 use Rattle.mode.specs.Mode.{row}
 use Rattle.sponge.specs.Sponge.{one_shot}
 use Rattle.calls.specs.Answer.{accepted, refused, summed}
@@ -28,10 +26,10 @@ module _ {S : Type 0} (run : Call → S → Step S) (empty : S) where
   pub record Law (calls : List Call) : Type 0 where
     -- of a ticket that was issued for a mode, with its tag length, and a key, the bytes drawn, d in all, are the first d bytes of the one-shot output for the
     -- bytes fed
-    pub bytes : (t : ℕ) (mode : Mode) (key : List ℕ) → issue_of t (transcript calls) ≡ issued_by (Is mode) key
+    pub bytes : (t : ℕ) (mode : Mode) (key : List ℕ) → issue_of t (transcript calls) ≡ issued_by (Some mode) key
         → bytes_drawn t (transcript calls) ≡ one_shot (row mode) key (bytes_fed t (transcript calls)) (length (bytes_drawn t (transcript calls)))
     -- its run count, given by the last accepted call on it, is the formula: for whether feeding lasts, n bytes fed and d drawn
-    pub count : (t : ℕ) (mode : Mode) (key : List ℕ) → issue_of t (transcript calls) ≡ issued_by (Is mode) key
+    pub count : (t : ℕ) (mode : Mode) (key : List ℕ) → issue_of t (transcript calls) ≡ issued_by (Some mode) key
         → run_count t (transcript calls)
         ≡ formula mode key (feeding_lasts t (transcript calls)) (length (bytes_fed t (transcript calls))) (length (bytes_drawn t (transcript calls)))
     -- the sum after the list, which a sum call gives next, is the run counts of all tickets issued in it, added up
@@ -51,7 +49,7 @@ module _ {S : Type 0} (run : Call → S → Step S) (empty : S) where
   -- name it from then on are the same, in the same order: then they get the same answers and the same buffers, whatever else the lists hold.
   abbrev pub Apart : Type 0
   Apart =
-      (calls others : List Call) (t : ℕ) (mode : Named) (key : List ℕ)
+      (calls others : List Call) (t : ℕ) (mode : Option Mode) (key : List ℕ)
       → issue_of t (transcript calls) ≡ issued_by mode key
       → issue_of t (transcript others) ≡ issued_by mode key
       → calls_of (exchanges t calls) ≡ calls_of (exchanges t others)
@@ -76,7 +74,7 @@ module _ {S : Type 0} (run : Call → S → Step S) (empty : S) where
   abbrev pub Verdicts : Type 0
   Verdicts =
       (calls : List Call) (t tagLength : ℕ) (key tag : List ℕ)
-      → issue_of t (transcript calls) ≡ issued_by (Is (Mac tagLength)) key
+      → issue_of t (transcript calls) ≡ issued_by (Some (Mac tagLength)) key
       → accepted (run (Check t tag) (final run empty calls)).response.answer ≡ true
       → (tag ≡ mac_fed calls t tagLength key → (run (Check t tag) (final run empty calls)).response.answer.passed ≡ true)
       × (tag ≢ mac_fed calls t tagLength key → (run (Check t tag) (final run empty calls)).response.answer.passed ≡ false)

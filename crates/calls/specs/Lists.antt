@@ -1,7 +1,7 @@
 -- What a list of calls and what they got say of a ticket: document 01's "Lists of calls", read off the list alone. Nothing here looks into a hub or a machine.
 -- Assumes nothing.
-use Rattle.std.specs.Prelude.{Bool, true, false, cond, not, ◌&&◌, List, [], ◌∷◌, ◌++◌, ℕ, eqb, take, drop}
-use Rattle.mode.specs.declared.Named.{Named}
+use Rattle.std.specs.Prelude.{Bool, true, false, cond, not, ◌&&◌, List, [], ◌∷◌, ◌++◌, ℕ, eqb, take, drop, Option}
+use Rattle.mode.specs.declared.Mode.{Mode}
 use Rattle.mode.specs.Mode.{named}
 use Rattle.calls.specs.Answer.{accepted}
 use Rattle.calls.specs.Call.{Call, Open, Feed, Draw, Check, Close, Sum, Response, Event}
@@ -53,7 +53,7 @@ ends_feeding Sum = false
 -- how a ticket was issued: by an open that named this mode, which has mode 2's tag length in it, and this key; or not at all
 pub data Issue : Type 0 where
   unissued : Issue
-  issued_by : (mode : Named) (key : List ℕ) → Issue
+  issued_by : (mode : Option Mode) (key : List ℕ) → Issue
 
 abbrev pub issue_by : Call → Issue → Issue
 issue_by (Open mode key tagLength) otherwise = issued_by (named mode tagLength) key

@@ -1,11 +1,9 @@
 -- Document 01's plain machine: it is fed the calls' arguments and nothing else, and knows no words and no hub. Its output and its run counts are the papers'
 -- one-shot function (sponge/specs/Sponge.antt) and document 01's formula.
 -- Assumes nothing.
-use Rattle.std.specs.Prelude.{Bool, true, false, cond, List, [], ◌∷◌, ◌++◌, ℕ, ◌+◌, leb, ltb, length, drop, get_or, set}
+use Rattle.std.specs.Prelude.{Bool, true, false, cond, List, [], ◌∷◌, ◌++◌, ℕ, ◌+◌, leb, ltb, length, drop, get_or, set, Option, Some, None}
 use Rattle.mode.specs.declared.Mode.{Mode}
 use Rattle.mode.specs.declared.Mode.TheVariants.{Prf}
-use Rattle.mode.specs.declared.Named.{Named}
-use Rattle.mode.specs.declared.Named.TheVariants.{Is, NoMode}
 use Rattle.mode.specs.Mode.{row, named}
 use Rattle.sponge.specs.Sponge.{start, one_shot, runs_feeding, runs_ended}
 use Rattle.calls.specs.Answer.{opened, counted, judged, summed}
@@ -95,15 +93,15 @@ open_count m = total (λ (e : Entry). cond e.is_open 1 0) m.entries
 -- ---- the calls
 
 -- one more entry under the next number, which goes up by one. That no mode is named does not occur: check 1
-unfoldable pub admit : Named → List ℕ → Machine → Step Machine
-admit (Is mode) key m =
+unfoldable pub admit : Option Mode → List ℕ → Machine → Step Machine
+admit (Some mode) key m =
     let e : Entry = new_entry m.next mode key in
     step (record { next = m.next + 1; entries = m.entries ++ (e ∷ []) }) (opened m.next (runs_of e)) []
-admit NoMode key m = refuse m [] 1
+admit None key m = refuse m [] 1
 
 unfoldable pub open_machine : ℕ → List ℕ → ℕ → Machine → Step Machine
 open_machine mode key tagLength m =
-    let meant : Named = named mode tagLength in
+    let meant : Option Mode = named mode tagLength in
     checked (refuse m []) (open_checks meant key tagLength (length m.entries) (leb most_open (open_count m))) (admit meant key m)
 
 unfoldable pub feed_machine : ℕ → List ℕ → Machine → Step Machine

@@ -2,84 +2,38 @@
 // values, lists of them, and the plain machine.
 #![tactic(auto)]
 
-ghost use Rattle.std.specs.Prelude.{◌≡◌};
-ghost use Rattle.calls.specs.Answer as spec;
+ghost use Rattle.std.specs.Prelude.{◌≡◌, Ok};
+ghost use Rattle.calls.specs.Answer.{answer_of};
 
-#[derive(Clone, Copy)]
-pub struct Answer {
-    // the refusal's number; 0: the call is accepted
-    pub refusal: u32,
-    // the ticket that an open gives
-    pub ticket: u32,
-    // the ticket's run count
-    pub runs: u64,
-    // the verdict of a check
-    pub passed: bool,
-    // the sum that sum gives
-    pub sum: u64,
+use checks::Refusal;
+
+// What an accepted call gives, and a refused one its reason.
+pub type Answer = Result<Accepted, Refusal>;
+
+// An accepted call's answer: its ticket's run count, and what it was called for. One type for all calls, since a list of calls has one for its answers: which
+// case a call gives is promised by the call (`of_open` and the like in specs/Answer.antt).
+#[derive(Clone, Copy, Debug, PartialEq, Eq)]
+pub enum Accepted {
+    // An open: the ticket that it gives.
+    Opened { ticket: u32, runs: u64 },
+    // A feed, draw or close.
+    Counted(u64),
+    // A check: the verdict.
+    Judged { passed: bool, runs: u64 },
+    // The sum of all runs, of no ticket.
+    Summed(u64),
 }
 
-impl Answer {
-    pub fn refused(number: u32) -> Answer
-        ensures { result ≡ spec.refused number }
+impl Accepted {
+    // The run count of the call's ticket; 0 for a sum, which is of none.
+    pub fn runs(self) -> u64
+        ensures { result ≡ (answer_of (Ok self)).runs }
     {
-        Answer {
-            refusal: number,
-            ticket: 0,
-            runs: 0,
-            passed: false,
-            sum: 0,
-        }
-    }
-
-    // An accepted open.
-    pub fn opened(ticket: u32, runs: u64) -> Answer
-        ensures { result ≡ spec.opened ticket runs }
-    {
-        Answer {
-            refusal: 0,
-            ticket: ticket,
-            runs: runs,
-            passed: false,
-            sum: 0,
-        }
-    }
-
-    // An accepted feed, draw or close.
-    pub fn counted(runs: u64) -> Answer
-        ensures { result ≡ spec.counted runs }
-    {
-        Answer {
-            refusal: 0,
-            ticket: 0,
-            runs: runs,
-            passed: false,
-            sum: 0,
-        }
-    }
-
-    // An accepted check.
-    pub fn judged(passed: bool, runs: u64) -> Answer
-        ensures { result ≡ spec.judged passed runs }
-    {
-        Answer {
-            refusal: 0,
-            ticket: 0,
-            runs: runs,
-            passed: passed,
-            sum: 0,
-        }
-    }
-
-    pub fn summed(sum: u64) -> Answer
-        ensures { result ≡ spec.summed sum }
-    {
-        Answer {
-            refusal: 0,
-            ticket: 0,
-            runs: 0,
-            passed: false,
-            sum: sum,
+        match self {
+            Accepted::Opened { runs, .. }
+            | Accepted::Counted(runs)
+            | Accepted::Judged { runs, .. } => runs,
+            Accepted::Summed(_) => 0,
         }
     }
 }

@@ -2,3 +2,4 @@
 pub mod Checks
 pub mod Buffers
 pub mod Equality
+pub mod Refusals

@@ -1,11 +1,10 @@
 -- What a plan of steps prints: the lines of its calls.
 -- Assumes nothing.
-use Rattle.std.specs.Prelude.{◌≡◌, cond, List, [], ◌∷◌, ◌++◌, ℕ, zero, suc, ◌+◌, ◌-◌, ◌*◌, ◌/◌, ◌%◌, ltb, take, replicate}
+use Rattle.std.specs.Prelude.{cond, List, [], ◌∷◌, ◌++◌, ℕ, zero, suc, ◌+◌, ◌-◌, ◌*◌, ◌/◌, ◌%◌, ltb, take, replicate}
 use Rattle.calls.specs.Call.{Call, Open, Feed, Draw, Check, Close, Sum, events, final}
 use Rattle.hub.specs.declared.Hub.{Hub}
 use Rattle.hub.specs.Hub.{empty_hub, on_hub}
-use Rattle.script.specs.Text.{text, newline, part, Wrote}
-use Rattle.listing.specs.declared.Listed.{Listed}
+use Rattle.script.specs.Text.{text, newline, part}
 use Rattle.listing.specs.Listing.{number_field, three_fields, lines}
 use Rattle.day.specs.declared.Planned.{Planned}
 use Rattle.day.specs.declared.Planned.TheVariants as planned
@@ -61,11 +60,6 @@ step_text Begin sample h = begin_text
 step_text (Make p) sample h = lines (events on_hub h (call_of p sample ∷ []))
 step_text (Turns first end) sample h = lines (events on_hub h (turns_from first (end - first) sample))
 step_text (FeedOften ticket byte n times) sample h = often_text ticket (alike byte n) times
-
--- a step was made and listed: `r` has the hub after it and the place behind its text, as `Lists` says it of calls
-pub record StepListed (step : Step) (sample : List ℕ) (before : Hub) (first : List ℕ) (at : ℕ) (last : List ℕ) (r : Listed) : Type 0 where
-  pub hub : r.hub ≡ step_after step sample before
-  pub text : Wrote first at (step_text step sample before) last r.next
 
 -- what a whole plan prints
 unfoldable pub plan_text : List Step → List ℕ → Hub → List ℕ

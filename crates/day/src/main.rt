@@ -2,19 +2,24 @@
 // with all its arguments and what the call gave. tests/ reads that list and works every answer and every byte out anew, from document 01 alone.
 #![tactic(auto)]
 
-ghost use Rattle.std.specs.Prelude.{◌≡◌, [], ◌∷◌, ◌-◌, ◌≤◌, length, replicate};
+ghost use Rattle.std.specs.Prelude.{◌≡◌, [], ◌∷◌, ◌-◌, replicate};
 ghost use Rattle.calls.specs.Call as call;
 ghost use Rattle.hub.specs.Hub.{empty_hub, on_hub};
 ghost use Rattle.script.specs.Text.{Wrote};
-ghost use Rattle.listing.specs.Listing.{Lists};
-ghost use Rattle.day.specs.declared.Step.TheVariants.{FeedOften};
+ghost use Rattle.script.specs.Writing.{Puts};
+ghost use Rattle.listing.specs.Listing.{Listed, Lists};
 ghost use Rattle.day.specs.Day as spec;
 
 use hub::Hub;
-use listing::Listed;
+use listing::Listing;
+use script::Writer;
+
+// Standard output, as `io` numbers it. std's writers promise no more of a write than `io::write_all` does, and want the runtime.
+const STDOUT: i32 = 1;
 
 // A call of the plan. Its bytes are so many of the sample from a place on: after the mode or the ticket stand the place and how many. An open also has a tag length;
-// a draw has the length of the buffer that it is lent, the place and the count.
+// a draw has the length of the buffer that it is lent, the place and the count. Neither these fields nor a step's have names, which
+// would stand in the plan a hundred times. The plan is a table and the program's only input.
 #[derive(Clone, Copy)]
 enum Planned {
     Open(u32, usize, usize, u32),
@@ -34,8 +39,6 @@ enum Step {
     FeedOften(u32, u8, usize, usize),
 }
 
-const STEPS: usize = 100;
-
 const DAY: [Step; 100] = [
     // No ticket is issued yet: every ticket is refused, and so are opens that name no mode, bring a wrong key or name a wrong
     // tag length.
@@ -43,7 +46,7 @@ const DAY: [Step; 100] = [
     Step::Make(Planned::Sum),
     Step::Make(Planned::Feed(1, 0, 3)),
     Step::Make(Planned::Draw(0, 8, 0, 1)),
-    Step::Make(Planned::Check(4294967295, 0, 8)),
+    Step::Make(Planned::Check(u32::MAX, 0, 8)),
     Step::Make(Planned::Close(1)),
     Step::Make(Planned::Open(0, 0, 0, 0)),
     Step::Make(Planned::Open(7, 0, 16, 0)),
@@ -95,8 +98,8 @@ const DAY: [Step; 100] = [
     Step::Make(Planned::Feed(2, 0, 1)),
     Step::Make(Planned::Draw(2, 8, 1, 7)),
     Step::Make(Planned::Draw(2, 8, 1, 8)),
-    Step::Make(Planned::Draw(2, 8, 18446744073709551615, 1)),
-    Step::Make(Planned::Draw(2, 8, 1, 18446744073709551615)),
+    Step::Make(Planned::Draw(2, 8, usize::MAX, 1)),
+    Step::Make(Planned::Draw(2, 8, 1, usize::MAX)),
     // Two lines under one key: the tag that one gives the other takes, but not its first eight bytes. A damaged one fails, and closes its line as well. Two more,
     // with tags of eight bytes: the one takes its own, the other not those eight.
     Step::Begin,
@@ -161,174 +164,119 @@ const SAMPLE: [u8; 88] = [
 // ---- calls
 
 // The call is made and listed.
-fn make(before: Hub, planned: Planned, sample: &[u8], text: &mut [u8], at: usize) -> Listed
-    ensures { Lists (spec.call_of planned sample.now ∷ []) before text.old at text.new result }
+#[tactic(auto, using(std::proofs::lemmas::List::take_min), unfolding(crate::specs::Day::call_of))]
+fn make(list: &mut Listing, planned: Planned, sample: &[u8])
+    ensures { Lists (spec.call_of planned sample.now ∷ []) list.old list.new }
 {
     match planned {
-        Planned::Open(mode, start, n, length) => listing::open(
-            before,
-            mode,
-            script::part(sample, start, n),
-            length,
-            text,
-            at,
-        ),
-        Planned::Feed(ticket, start, n) => listing::feed(
-            before,
-            ticket,
-            script::part(sample, start, n),
-            text,
-            at,
-        ),
+        Planned::Open(mode, start, n, length) => {
+            list.open(mode, script::part(sample, start, n), length)
+        }
+        Planned::Feed(ticket, start, n) => list.feed(ticket, script::part(sample, start, n)),
         Planned::Draw(ticket, n, place, count) => {
             let mut buffer = [170u8; 48];
-            let end = script::place_in(&buffer, n);
-            listing::draw(before, ticket, &mut buffer[..end], place, count, text, at)
+            let end = n.min(buffer.len());
+            list.draw(ticket, &mut buffer[..end], place, count)
         }
-        Planned::Check(ticket, start, n) => listing::check(
-            before,
-            ticket,
-            script::part(sample, start, n),
-            text,
-            at,
-        ),
-        Planned::Close(ticket) => listing::close(before, ticket, text, at),
-        Planned::Sum => listing::sum(before, text, at),
+        Planned::Check(ticket, start, n) => list.check(ticket, script::part(sample, start, n)),
+        Planned::Close(ticket) => list.close(ticket),
+        Planned::Sum => list.sum(),
     }
 }
 
 // Turn number i of those that go through the lines: sixteen opens, the modes in turn and with several tag lengths; eighty feeds, some of no byte at all;
 // ninety-six draws, some past the limits of modes 2 and 3 and some past the buffer's end; and closes, each ticket's twice.
+#[tactic(auto, using(std::proofs::lemmas::Bool::Decides::nat_tests), unfolding(crate::specs::Day::turn_at))]
 fn turn(i: usize) -> Planned
     ensures { result ≡ spec.turn_at i }
 {
-    if i < 16 {
-        if i % 6 < 2 {
-            return Planned::Open((i % 6 + 1) as u32, i, 16, (i % 9 + 8) as u32);
-        }
-        return Planned::Open((i % 6 + 1) as u32, i, 0, 0);
-    }
     let ticket = (i % 16 + 1) as u32;
-    if i < 96 {
-        return Planned::Feed(ticket, i % 12, i % 37 * 5 % 37);
+    match i {
+        0..16 if i % 6 < 2 => Planned::Open((i % 6 + 1) as u32, i, 16, (i % 9 + 8) as u32),
+        0..16 => Planned::Open((i % 6 + 1) as u32, i, 0, 0),
+        16..96 => Planned::Feed(ticket, i % 12, i % 37 * 5 % 37),
+        96..192 => Planned::Draw(ticket, 48, i % 41, i % 23 * 7 % 23),
+        _ => Planned::Close((i / 2 % 20) as u32),
     }
-    if i < 192 {
-        return Planned::Draw(ticket, 48, i % 41, i % 23 * 7 % 23);
-    }
-    Planned::Close((i / 2 % 20) as u32)
 }
 
-fn turns(before: Hub, first: usize, end: usize, sample: &[u8], text: &mut [u8], at: usize) -> Listed
-    requires { at ≤ length text.old }
-    ensures { Lists (spec.turns_from first (end - first) sample.now) before text.old at text.new result }
+#[tactic(auto, using(script::proofs::Texts::parts, listing::proofs::Lists::lists, crate::proofs::Plans::no_turn, crate::proofs::Plans::turn_next))]
+fn turns(list: &mut Listing, first: usize, end: usize, sample: &[u8])
+    ensures { Lists (spec.turns_from first (end - first) sample.now) list.old list.new }
 {
-    let mut current = Listed {
-        hub: before,
-        next: at,
-    };
-    let mut i = first;
-    while i < end {
-        let before_turn = current.hub;
-        current = make(before_turn, turn(i), sample, text, current.next);
-        i += 1;
+    // From here on the place is in the buffer, even where no turn follows.
+    list.out.put_nothing();
+    for i in first..end {
+        make(list, turn(i), sample);
     }
-    current
 }
 
-// The same bytes fed so many times; the answers are not listed.
-fn feed_often(before: Hub, ticket: u32, bytes: &[u8], times: usize) -> Hub
-    ensures { result ≡ call.final on_hub before (replicate times (call.Feed ticket bytes.now)) }
+#[tactic(auto, using(script::proofs::Texts::parts), unfolding(crate::specs::Day::often_text))]
+fn put_often(out: &mut Writer, ticket: u32, bytes: &[u8], times: usize)
+    ensures { Puts (spec.often_text ticket bytes.now times) out.old out.new }
 {
-    let mut current = before;
-    let mut i = 0;
-    while i < times {
-        let reply = hub::feed(current, ticket, bytes);
-        current = reply.hub;
-        i += 1;
-    }
-    current
-}
-
-fn put_often(text: &mut [u8], at: usize, ticket: u32, bytes: &[u8], times: usize) -> usize
-    ensures { Wrote text.old at (spec.often_text ticket bytes.now times) text.new result }
-{
-    let after_bytes = listing::put_call(text, at, b"often", ticket, bytes);
-    let after_times = listing::put_number(text, after_bytes, times as u64);
-    script::put_byte(text, after_times, b'\n')
+    listing::put_call(out, b"often", ticket, bytes);
+    listing::put_number(out, times as u64);
+    out.put_byte(b'\n');
 }
 
 // ---- steps
 
-fn begin(text: &mut [u8], at: usize) -> Listed
-    ensures hub { result.hub ≡ empty_hub }
-    ensures text { Wrote text.old at spec.begin_text text.new result.next }
+fn begin(list: &mut Listing)
+    ensures { Listed spec.begin_text empty_hub list.old list.new }
 {
-    let next = script::put_bytes(text, at, b"empty\n");
-    let empty = Hub::empty();
-    Listed {
-        hub: empty,
-        next: next,
-    }
+    list.out.put_bytes(b"empty\n");
+    list.hub = Hub::empty();
 }
 
-fn often(
-    before: Hub,
-    ticket: u32,
-    byte: u8,
-    n: usize,
-    times: usize,
-    sample: &[u8],
-    text: &mut [u8],
-    at: usize,
-) -> Listed
-    ensures { spec.StepListed (FeedOften ticket byte n times) sample.now before text.old at text.new result }
+// So many equal bytes are fed so many times; the answers are not listed.
+fn often(list: &mut Listing, ticket: u32, byte: u8, n: usize, times: usize)
+    ensures { Listed (spec.often_text ticket (spec.alike byte n) times) (call.final on_hub list.old.hub (replicate times (call.Feed ticket (spec.alike byte n)))) list.old list.new }
 {
     let alike = [byte; 4096];
     let bytes = script::part(&alike, 0, n);
-    let next = put_often(text, at, ticket, bytes, times);
-    let after = feed_often(before, ticket, bytes, times);
-    Listed {
-        hub: after,
-        next: next,
-    }
+    put_often(list.out, ticket, bytes, times);
+    list.hub = hub::feed_often(list.hub, ticket, bytes, times);
 }
 
-fn make_step(before: Hub, step: Step, sample: &[u8], text: &mut [u8], at: usize) -> Listed
-    requires { at ≤ length text.old }
-    ensures { spec.StepListed step sample.now before text.old at text.new result }
+#[tactic(auto, unfolding(crate::specs::Day::step_after, crate::specs::Day::step_text))]
+fn make_step(list: &mut Listing, step: Step, sample: &[u8])
+    ensures { Listed (spec.step_text step sample.now list.old.hub) (spec.step_after step sample.now list.old.hub) list.old list.new }
 {
     match step {
-        Step::Begin => begin(text, at),
-        Step::Make(planned) => make(before, planned, sample, text, at),
-        Step::Turns(first, end) => turns(before, first, end, sample, text, at),
-        Step::FeedOften(ticket, byte, n, times) => often(
-            before, ticket, byte, n, times, sample, text, at,
-        ),
+        Step::Begin => begin(list),
+        Step::Make(planned) => make(list, planned, sample),
+        Step::Turns(first, end) => turns(list, first, end, sample),
+        Step::FeedOften(ticket, byte, n, times) => often(list, ticket, byte, n, times),
     }
 }
 
-// The text of a whole plan, which begins with an empty hub, from the buffer's start on; answers the place behind it.
-fn list_plan(plan: [Step; 100], sample: &[u8], text: &mut [u8]) -> usize
-    ensures { Wrote text.old 0 (spec.plan_text plan sample.now empty_hub) text.new result }
+// The text of a whole plan.
+#[tactic(auto, using(script::proofs::Texts::parts, crate::proofs::Plans::planned_steps))]
+fn put_plan(list: &mut Listing, plan: &[Step], sample: &[u8])
+    ensures same { list.new.out.ghost_name ≡ list.old.out.ghost_name }
+    ensures text { Puts (spec.plan_text plan.now sample.now list.old.hub) list.old.out.now list.new.out.now }
 {
-    let empty = Hub::empty();
-    let mut current = Listed {
-        hub: empty,
-        next: 0,
-    };
-    let mut i = 0;
-    while i < STEPS {
-        let before_step = current.hub;
-        current = make_step(before_step, plan[i], sample, text, current.next);
-        i += 1;
+    // From here on the place is in the buffer, even where no step follows.
+    list.out.put_nothing();
+    for step in plan {
+        make_step(list, *step, sample);
     }
-    current.next
+}
+
+// The same text from a buffer's start on, beginning with an empty hub. Answers the place behind it.
+fn list_plan(plan: &[Step], sample: &[u8], text: &mut [u8]) -> usize
+    ensures { Wrote text.old 0 (spec.plan_text plan.now sample.now empty_hub) text.new result }
+{
+    let mut out = Writer { out: text, at: 0 };
+    let hub = Hub::empty();
+    put_plan(&mut Listing { hub, out: &mut out }, plan, sample);
+    out.at
 }
 
 // The buffer is longer than the text, which has 58,245 bytes.
 fn main() {
-    let sample = SAMPLE;
     let mut text = [0u8; 65536];
-    let length = list_plan(DAY, &sample, &mut text);
-    io::write_all(1, &text[..length]);
+    let length = list_plan(&DAY, &SAMPLE, &mut text);
+    io::write_all(STDOUT, &text[..length]);
 }

@@ -16,7 +16,7 @@ pub extern "C" fn ascon_prf_short(key: &[u8], message: &[u8], out: &mut [u8], le
     ensures answer { result ≡ short_answer key.now message.now out.old length }
     ensures after { out.new ≡ short_after key.now message.now out.old length }
 {
-    prf_short::prf_short(key, message, out, length)
+    checks::number_of(prf_short::prf_short(key, message, out, length))
 }
 
 // Sealing. The answer is 0, or the refusal: 2, 3.
@@ -25,8 +25,7 @@ pub extern "C" fn ascon_seal_frame(key: &[u8], frame: &mut [u8], body: usize) ->
     ensures answer { result ≡ (seal_answer key.now frame.old body).refusal }
     ensures after { frame.new ≡ seal_after key.now frame.old body }
 {
-    let sealed = frame::seal(key, frame, body);
-    sealed.refusal
+    checks::number_of(frame::seal(key, frame, body))
 }
 
 // Judging. The answer is 0 where the frame passes, 255 where it fails, or the refusal: 2, 3.
@@ -34,12 +33,9 @@ pub extern "C" fn ascon_seal_frame(key: &[u8], frame: &mut [u8], body: usize) ->
 pub extern "C" fn ascon_verify_frame(key: &[u8], frame: &[u8], body: usize) -> u32
     ensures { result ≡ judged_number (verify_answer key.now frame.now body) }
 {
-    let judged = frame::verify(key, frame, body);
-    if judged.refusal != 0 {
-        return judged.refusal;
+    match frame::verify(key, frame, body) {
+        Ok(verdict) if verdict.passed => 0,
+        Ok(_) => FAILED,
+        Err(refusal) => refusal.number(),
     }
-    if judged.passed {
-        return 0;
-    }
-    FAILED
 }

@@ -6,7 +6,7 @@ use mathlib.Core.Logic.{◌≢◌}
 use mathlib.Core.List.{List}
 use Prim.Native.Nat.{ℕ, ◌+◌, ◌^◌, ◌≤◌, ◌<◌}
 use native.Mathlib.Omega.{arith}
-use borrow.Author.Tests.{eq-eqb, ne_eqb, ltb-false}
+use borrow.Author.Tests.{eq-eqb, ne_eqb}
 use lib.Dec.{eqb, ltb}
 use lib.ListN.{length, take}
 use lib.Seq.{length-take-le, take_all}
@@ -14,12 +14,11 @@ use Rattle.checks.specs.Buffers.{written}
 use Rattle.checks.specs.Equality.{same}
 use Rattle.checks.proofs.Checks.{Pass, Nonzero, refused-by-number, zero-passes, passed-done}
 use Rattle.mode.specs.declared.Mode.TheVariants.{Mac}
-use Rattle.sponge.specs.declared.record.Record.{Record}
 use Rattle.sponge.specs.Sponge.{ceiling, start, runs_ended}
-use Rattle.sponge.specs.Record.{fresh, absorbed, finished, after_drawing, next_bytes, squeezed, tag_matches}
+use Rattle.sponge.specs.Record.{after_drawing, next_bytes, squeezed, tag_matches}
 use Rattle.sponge.proofs.Calls.{length-next_bytes}
 use Rattle.sponge.proofs.Streaming.{calls-all-bytes, calls-tag, calls-ended-runs, runs_fit}
-use Rattle.frame.specs.Frame.{tag_for, tag_in, frame_checks, frame_refusal, frame_runs, seal_refused, seal_answer, seal_after, verify_refused, verify_answer}
+use Rattle.frame.specs.Frame.{tag_for, tag_in, frame_checks, frame_refusal, frame_runs, fed_body, seal_refused, seal_answer, seal_after, verify_refused, verify_answer}
 
 module _ (key frame : List ℕ) (body : ℕ) where
   -- ---- the number of the refusal
@@ -46,11 +45,6 @@ module _ (key frame : List ℕ) (body : ℕ) where
   passed : frame_refusal key frame body ≡ 0 → Pass (frame_checks key frame body)
   unfolding frame_refusal
   passed z = zero-passes (frame_checks key frame body) numbered z
-
-  -- the frame has room for the tag
-  pub has_room : frame_refusal key frame body ≡ 0 → body + 16 ≤ length frame
-  unfolding frame_checks
-  has_room z = ltb-false (length frame) (body + 16) (passed z).1.0
 
   -- ---- the calls, refused: the number is not 0
 
@@ -84,20 +78,17 @@ module _ (key frame : List ℕ) (body : ℕ) where
 
   -- ---- the sponge that has been fed the body
 
-  abbrev pub fed_body : Record
-  fed_body = finished (absorbed (take body frame) (fresh 0 (Mac 16) key))
-
   -- the sixteen bytes that it gives are the tag
-  pub tag-drawn : next_bytes 16 fed_body ≡ tag_for key frame body
+  pub tag-drawn : next_bytes 16 (fed_body key frame body) ≡ tag_for key frame body
   unfolding tag_for
   tag-drawn = calls-all-bytes 0 (Mac 16) key (take body frame) 16
 
   pub length-tag_for : length (tag_for key frame body) ≡ 16
-  length-tag_for = ap length (sym tag-drawn) ∙ length-next_bytes 16 fed_body
+  length-tag_for = ap length (sym tag-drawn) ∙ length-next_bytes 16 (fed_body key frame body)
 
   module _ (room : body + 16 ≤ length frame) where
     -- a tag is judged by all its bytes
-    pub verdict : tag_matches (tag_in frame body) fed_body ≡ same (tag_in frame body) (tag_for key frame body)
+    pub verdict : tag_matches (tag_in frame body) (fed_body key frame body) ≡ same (tag_in frame body) (tag_for key frame body)
     unfolding tag_for
     verdict =
         calls-tag 0 (Mac 16) key (take body frame) (tag_in frame body)
@@ -105,15 +96,15 @@ module _ (key frame : List ℕ) (body : ℕ) where
 
     -- the runs, whether sixteen bytes are drawn or none
     module _ (few : length frame < 2 ^ 64) where
-      fed-runs : (d : ℕ) → d ≤ 16 → (squeezed d fed_body).runs ≡ frame_runs body
+      fed-runs : (d : ℕ) → d ≤ 16 → (squeezed d (fed_body key frame body)).runs ≡ frame_runs body
       unfolding start runs_ended ceiling frame_runs
       fed-runs d h =
           let n : length (take body frame) ≡ body = length-take-le body frame (omega arith) in
           calls-ended-runs 0 (Mac 16) key (take body frame) d (runs_fit (Mac 16) (length (take body frame)) d (omega (arith, n)) (omega arith)) ∙ omega (arith, n)
 
-      pub sealing-runs : (squeezed 16 fed_body).runs ≡ frame_runs body
+      pub sealing-runs : (squeezed 16 (fed_body key frame body)).runs ≡ frame_runs body
       sealing-runs = fed-runs 16 (omega arith)
 
-      pub judging-runs : fed_body.runs ≡ frame_runs body
+      pub judging-runs : (fed_body key frame body).runs ≡ frame_runs body
       unfolding squeezed after_drawing
       judging-runs = fed-runs 0 (omega arith)

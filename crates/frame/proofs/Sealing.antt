@@ -16,8 +16,7 @@ use Rattle.checks.proofs.Buffers.{length-written, read-written, before-written, 
 use Rattle.mode.specs.declared.Mode.TheVariants.{Mac}
 use Rattle.mode.specs.Mode.{Row, row}
 use Rattle.sponge.specs.Sponge.{one_shot}
-use Rattle.frame.specs.declared.Judged.{Judged}
-use Rattle.frame.specs.Frame.{tag_for, tag_in, frame_refusal, seal_answer, seal_after, verify_answer}
+use Rattle.frame.specs.Frame.{Judged, tag_for, tag_in, frame_refusal, seal_answer, seal_after, verify_answer}
 use Rattle.frame.proofs.Laws.{refused_2, refused_3, refused_none, seal-refused, seal-kept, verify-refused, seal-wrote, verify-done, length-tag_for}
 
 -- ---- what is refused

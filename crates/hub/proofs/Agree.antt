@@ -1,16 +1,14 @@
 -- The hub and the plain machine agree: each call gets the same from both, and so does each call of a list.
 -- Assumes nothing.
+use Rattle.std.specs.Prelude.{Option, Some, None}
 use Rattle.std.proofs.Common.{◌≡◌, ℕ, ◌+◌, Bool, true, false, List, [], ◌∷◌, ◌++◌, drop, sym, refl, ap, ◌∙◌, ap₂, true≢false, arith, ltb-false, eqb-true}
 use borrow.Author.Tests.{not-false}
 use Rattle.mode.specs.declared.Mode.{Mode}
-use Rattle.mode.specs.declared.Named.{Named}
-use Rattle.mode.specs.declared.Named.TheVariants.{Is, NoMode}
 use Rattle.sponge.specs.declared.record.Record.{Record}
 use Rattle.mode.specs.Mode.{row, number_of, named}
 use Rattle.sponge.specs.Record.{absorbed, finished, next_bytes, squeezed, tag_matches}
 use Rattle.sponge.proofs.Core.{sum64-fits}
-use Rattle.calls.specs.declared.Answer.{Answer}
-use Rattle.calls.specs.Answer.{opened, counted, judged, summed}
+use Rattle.calls.specs.Answer.{Answer, opened, counted, judged, summed}
 use Rattle.calls.specs.Call.{Call, Open, Feed, Draw, Check, Close, Sum, Response, Step, step, refuse, Event, events, final}
 use Rattle.checks.specs.Checks.{OneCheck, checked}
 use Rattle.checks.specs.Buffers.{written}
@@ -99,7 +97,7 @@ module _ (h : Hub) (m : Machine) (s : Sound m) (rep : Represents h m) where
 
   -- one more ticket, in the first free place
   admitted : (mode : Mode) (key : List ℕ) → Tagged mode → (x : Record) (xs : List Record) → all ticket 0 h.records ≡ x ∷ xs
-      → Same (hub.admit (Is mode) key h) (plain.admit (Is mode) key m)
+      → Same (hub.admit (Some mode) key h) (plain.admit (Some mode) key m)
   unfolding hub.admit plain.admit with_new
   admitted mode key short x xs free =
       rw (← next-is h m s rep, new-model m.next mode key)
@@ -117,14 +115,14 @@ module _ (h : Hub) (m : Machine) (s : Sound m) (rep : Represents h m) where
       (checked-both Same (checks (named n tagLength)) (refuse h []) (refuse m []) (hub.admit (named n tagLength) key h) (plain.admit (named n tagLength) key m)
       (refused []) (one (named n tagLength) refl (all ticket 0 h.records) refl))
     where
-      checks : Named → List OneCheck
+      checks : Option Mode → List OneCheck
       checks x = open_checks x key tagLength h.issued (hub.absent 0 h)
 
-      one : (x : Named) → named n tagLength ≡ x → (l : List Record) → all ticket 0 h.records ≡ l → Pass (checks x)
+      one : (x : Option Mode) → named n tagLength ≡ x → (l : List Record) → all ticket 0 h.records ≡ l → Pass (checks x)
           → Same (hub.admit x key h) (plain.admit x key m)
-      one NoMode is l free pass = absurd (true≢false pass.0)
-      one (Is mode) is (x ∷ xs) free pass = admitted mode key (tagged n tagLength mode is pass.1.1.0) x xs free
-      one (Is mode) is [] free pass = absurd (true≢false (sym (is-absent 0 h free) ∙ pass.1.1.1.1.0))
+      one None is l free pass = absurd (true≢false pass.0)
+      one (Some mode) is (x ∷ xs) free pass = admitted mode key (tagged n tagLength mode is pass.1.1.0) x xs free
+      one (Some mode) is [] free pass = absurd (true≢false (sym (is-absent 0 h free) ∙ pass.1.1.1.1.0))
 
   feed-same : (t : ℕ) (bytes : List ℕ) → Same (feed_hub t bytes h) (feed_machine t bytes m)
   unfolding feed_hub feed_machine feed_checks feed_own after_feed

@@ -1,12 +1,11 @@
 -- The laws of specs/Law.antt: what holds of the plain machine's responses holds of the hub's, which are the same.
 -- Assumes nothing.
+use Rattle.std.specs.Prelude.{Option, Some, None}
 use Rattle.std.proofs.Common.{ℕ, [], sym, refl, ap, ◌∙◌, true≢false, arith}
-use Rattle.mode.specs.declared.Named.{Named}
-use Rattle.mode.specs.declared.Named.TheVariants.{Is, NoMode}
+use Rattle.mode.specs.declared.Mode.{Mode}
 use Rattle.mode.specs.Mode.{named}
 use Rattle.mode.proofs.Modes.{length_ignored}
-use Rattle.calls.specs.declared.Answer.{Answer}
-use Rattle.calls.specs.Answer.{accepted}
+use Rattle.calls.specs.Answer.{Answer, accepted}
 use Rattle.calls.specs.Call.{Response, Open, Feed, Draw, Check, Close, Sum, final}
 use Rattle.calls.specs.Checks.{open_checks, feed_checks, draw_checks, check_checks, ticket_checks}
 use Rattle.calls.specs.Law.{Closes}
@@ -44,9 +43,9 @@ unfolding on_hub open_hub feed_hub draw_hub check_hub close_hub sum_hub admit
 hub-refused-keeps (Open mode key tagLength) h =
     checked-keeps h [] (open_checks (named mode tagLength) key tagLength h.issued (absent 0 h)) (admit (named mode tagLength) key h) (go (named mode tagLength))
   where
-    go : (x : Named) → Keeps h (admit x key h)
-    go (Is y) z = absurd (true≢false z)
-    go NoMode z = refl
+    go : (x : Option Mode) → Keeps h (admit x key h)
+    go (Some y) z = absurd (true≢false z)
+    go None z = refl
 hub-refused-keeps (Feed t bytes) h = checked-keeps h [] (feed_checks (standing_of t h) bytes) _ (λ z. absurd (true≢false z))
 hub-refused-keeps (Draw t buffer place count) h = checked-keeps h buffer (draw_checks (standing_of t h) buffer place count) _ (λ z. absurd (true≢false z))
 hub-refused-keeps (Check t tag) h = checked-keeps h [] (check_checks (standing_of t h) tag) _ (λ z. absurd (true≢false z))

@@ -1,8 +1,6 @@
 -- Crate `hub`: its laws.
 pub mod Locating
-pub mod RecordCalls
 pub mod Calls
-pub mod InPlace
 pub mod Model
 pub mod Tickets
 pub mod Represents

@@ -1,9 +1,8 @@
 -- The hub, and what each call makes of it. The calls promise these definitions, for every hub; the law over lists of calls is about them too.
 -- Assumes nothing.
-use Rattle.std.specs.Prelude.{ℕ, ◌+◌, Bool, false, not, ◌&&◌, List, [], length, replicate, ◌==◌, nat_le, slice_index_or, slice_set}
+use Rattle.std.specs.Prelude.{ℕ, ◌+◌, Bool, false, not, ◌&&◌, List, [], length, replicate, ◌==◌, nat_le, slice_index_or, slice_set, Option, Some, None}
+use Rattle.mode.specs.declared.Mode.{Mode}
 use Rattle.mode.specs.declared.Mode.TheVariants.{Prf}
-use Rattle.mode.specs.declared.Named.{Named}
-use Rattle.mode.specs.declared.Named.TheVariants.{Is, NoMode}
 use Rattle.sponge.specs.declared.record.Record.{Record}
 use Rattle.mode.specs.Mode.{named}
 use Rattle.sponge.specs.Record.{sum64, vacant, fresh, absorbed, finished, next_bytes, squeezed, tag_matches}
@@ -14,7 +13,6 @@ use Rattle.calls.specs.Checks.{most_open, Standing, open_checks, ticket_checks, 
 use Rattle.calls.specs.Call.{Call, Open, Feed, Draw, Check, Close, Sum, Step, step, refuse}
 use Rattle.calls.specs.Keyed.{find, total}
 use Rattle.hub.specs.declared.Hub.{Hub}
-use Rattle.hub.specs.declared.Reply.{Reply}
 
 -- no ticket issued, sum 0
 unfoldable pub empty_hub : Hub
@@ -59,16 +57,16 @@ standing_of t h =
 -- ---- the calls
 
 -- a new record in the first free place. That no mode is named does not occur: check 1
-unfoldable pub admit : Named → List ℕ → Hub → Step Hub
-admit (Is mode) key h =
+unfoldable pub admit : Option Mode → List ℕ → Hub → Step Hub
+admit (Some mode) key h =
     let t : ℕ = h.issued + 1 in
     let r : Record = fresh t mode key in
     step (record { records = (put 0 r h).records; issued = t; closed = h.closed }) (opened t r.runs) []
-admit NoMode key h = refuse h [] 1
+admit None key h = refuse h [] 1
 
 unfoldable pub open_hub : ℕ → List ℕ → ℕ → Hub → Step Hub
 open_hub mode key tagLength h =
-    let meant : Named = named mode tagLength in
+    let meant : Option Mode = named mode tagLength in
     checked (refuse h []) (open_checks meant key tagLength h.issued (absent 0 h)) (admit meant key h)
 
 unfoldable pub feed_hub : ℕ → List ℕ → Hub → Step Hub
@@ -105,7 +103,3 @@ on_hub (Draw t buffer place count) h = draw_hub t buffer place count h
 on_hub (Check t tag) h = check_hub t tag h
 on_hub (Close t) h = close_hub t h
 on_hub Sum h = sum_hub h
-
--- the hub after a call and its answer, as the code gives them back
-abbrev pub reply_of : Step Hub → Reply
-reply_of s = record { hub = s.after; answer = s.response.answer }

@@ -1,62 +1,31 @@
-// Where a ticket's record is.
-ghost use Rattle.std.specs.Prelude.{◌≡◌, ◌<◌};
+// Where a ticket's record is. A place is an index: with the record taken by the search itself a feed took longer (docs/DECISIONS.md).
+ghost use Rattle.std.specs.Prelude.{◌≡◌, ◌<◌, IfOk, IfSome};
+ghost use Rattle.checks.specs.Refusals.{answer_number};
 ghost use Rattle.calls.specs.Checks.{most_open};
-ghost use Rattle.hub.specs.Records as spec;
 ghost use Rattle.hub.specs.Hub.{place_of};
+ghost use Rattle.hub.specs.Records.{found, ticket_refusal};
 
 use super::Hub;
+use checks::Refusal;
 
-// The place of a ticket's record. Where a check fails, its number, and place 0.
-#[derive(Clone, Copy)]
-pub struct Located {
-    // 11 or 12; 0: the ticket is open
-    pub refusal: u32,
-    pub place: usize,
-}
-
-impl Located {
-    fn refused(number: u32) -> Located
-        ensures { result ≡ spec.nowhere number }
-    {
-        Located {
-            refusal: number,
-            place: 0,
-        }
-    }
-}
-
-// The first place whose record has the ticket, or 16. A free place has ticket 0.
-pub fn find(hub: Hub, ticket: u32) -> usize
-    ensures { result ≡ place_of ticket hub }
+// The first place whose record has the ticket. A free place has ticket 0, the vacant record's.
+pub fn find(hub: &Hub, ticket: u32) -> Option<usize>
+    ensures found { result ≡ found ticket hub.now }
+    ensures within { IfSome result (λ p. p < most_open) }
 {
-    let mut i = 0;
-    while i < Hub::PLACES {
-        let present = hub.records[i];
-        if present.ticket() == ticket {
-            return i;
-        }
-        i += 1;
-    }
-    i
+    hub.records
+        .iter()
+        .position(|record| record.ticket() == ticket)
 }
 
 // Checks 11 and 12, which every call on a ticket begins with.
-pub fn locate(hub: Hub, ticket: u32) -> Located
-    ensures located { result ≡ spec.located ticket hub }
-    ensures within { result.place < most_open }
+#[tactic(auto, using(crate::proofs::Locating::found_is), unfolding(crate::specs::Records::ticket_refusal, calls::specs::Checks::ticket_checks, crate::specs::Hub::standing_of))]
+pub fn locate(hub: &Hub, ticket: u32) -> Result<usize, Refusal>
+    ensures number { answer_number result ≡ ticket_refusal ticket hub.now }
+    ensures place { IfOk result (λ p. (p ≡ place_of ticket hub.now) × (p < most_open)) }
 {
-    if ticket == 0 {
-        return Located::refused(11);
+    if ticket == 0 || hub.issued < ticket {
+        return Err(Refusal::NeverIssued);
     }
-    if hub.issued < ticket {
-        return Located::refused(11);
-    }
-    let place = find(hub, ticket);
-    if Hub::PLACES <= place {
-        return Located::refused(12);
-    }
-    Located {
-        refusal: 0,
-        place: place,
-    }
+    find(hub, ticket).ok_or(Refusal::Closed)
 }

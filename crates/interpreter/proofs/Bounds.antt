@@ -13,7 +13,8 @@ use Rattle.script.specs.Text.{newline}
 use Rattle.script.specs.Line.{longest_line, parse}
 use Rattle.interpreter.specs.declared.Session.{Session}
 use Rattle.interpreter.specs.Script.{Meaning, names_line, call_line, malformed_line, meaning, names, most_lines, as_call}
-use Rattle.interpreter.specs.Session.{begun, step_by, stepped, stopped, Reader, Consumed, silent, after_step, hold, byte_step, consumed}
+use Rattle.interpreter.specs.declared.Reader.{Reader}
+use Rattle.interpreter.specs.Session.{begun, step_by, stepped, stopped, Consumed, silent, after_step, hold, byte_step, consumed}
 use Rattle.checks.specs.Joined.{joined}
 use Rattle.interpreter.specs.Theorems.{consumed_all, at_first, most_input, NotEmpty}
 use Rattle.interpreter.proofs.Consuming.{consumed-joined, stopped-consumed}

@@ -4,7 +4,8 @@ use mathlib.Core.Path.{◌≡◌, refl, sym, ap, ◌∙◌}
 use mathlib.Core.Bool.{false}
 use mathlib.Core.List.{List, [], ◌∷◌, ◌++◌, append_assoc}
 use Prim.Native.Nat.{ℕ}
-use Rattle.interpreter.specs.Session.{Reader, Consumed, silent, and_then, byte_step, consumed}
+use Rattle.interpreter.specs.declared.Reader.{Reader}
+use Rattle.interpreter.specs.Session.{Consumed, silent, and_then, byte_step, consumed}
 use Rattle.checks.specs.Joined.{joined}
 use Rattle.interpreter.specs.Theorems.{consumed_all}
 

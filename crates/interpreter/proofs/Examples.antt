@@ -11,7 +11,7 @@ use Rattle.sponge.specs.Sponge.{ceiling, start, one_shot, output as spongeOutput
 use Rattle.checks.specs.Buffers.{written}
 use Rattle.checks.specs.Equality.{same}
 use Rattle.calls.specs.Checks.{open_checks, ticket_checks, feed_own, feed_checks, draw_own, draw_checks, check_own, check_checks}
-use Rattle.calls.specs.declared.Answer.{Answer}
+use Rattle.calls.specs.Answer.{Answer}
 use Rattle.calls.specs.Call.{
   Call,
   Open as openCall,

@@ -8,7 +8,8 @@ use native.Mathlib.Omega.{arith}
 use lib.Dec.{leb}
 use lib.ListN.{length, length-append}
 use borrow.Author.Tests.{le-leb, lt-leb}
-use Rattle.interpreter.specs.Session.{Reader, Consumed, silent, byte_step, consumed, longest_answer, Filled, filled, output_size}
+use Rattle.interpreter.specs.declared.Reader.{Reader}
+use Rattle.interpreter.specs.Session.{Consumed, silent, byte_step, consumed, longest_answer, Filled, filled, output_size}
 use Rattle.checks.specs.Joined.{joined}
 use Rattle.interpreter.specs.Theorems.{Taking, part_texts}
 use Rattle.interpreter.proofs.Consuming.{consumed_append}

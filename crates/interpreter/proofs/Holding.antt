@@ -9,13 +9,14 @@ use native.Mathlib.Numerals.{add-one}
 use native.Mathlib.Omega.{arith}
 use lib.Dec.{eqb}
 use lib.ListN.{length, take, drop, set, take-append-drop}
-use lib.Seq.{sets, drop-drop}
+use lib.Seq.{sets}
 use borrow.Author.Tests.{eqb-false}
 use Rattle.script.specs.Text.{newline, before}
 use Rattle.script.specs.Line.{longest_line}
 use Rattle.script.specs.Input.{piece}
 use Rattle.script.proofs.Pieces.{piece-part}
-use Rattle.interpreter.specs.Session.{Reader, reader_of, holding, hold, longest_answer, filled}
+use Rattle.interpreter.specs.declared.Reader.{Reader}
+use Rattle.interpreter.specs.Session.{reader_of, holding, hold, longest_answer, filled}
 use Rattle.interpreter.proofs.Consuming.{stopped-byte}
 use Rattle.interpreter.proofs.Filling.{filled-silent}
 use Rattle.interpreter.proofs.Steps.{hold-step}
@@ -55,9 +56,8 @@ pub filled-stopped : (size : ℕ) (r : Reader) (text s : List ℕ) → length te
 filled-stopped size r text [] room e = refl
 filled-stopped size r text (b ∷ s) room e = filled-silent size r r text b s room (stopped-byte r b e) ∙ filled-stopped size r text s room e
 
--- a chunk from a place on is a piece of a line and what stands after it
-pub chunk-split : (chunk : List ℕ) (at room n : ℕ) → n ≡ length (piece chunk at room) → drop at chunk ≡ piece chunk at room ++ drop (at + n) chunk
-chunk-split chunk at room n e =
-    sym (take-append-drop n (drop at chunk))
-    ∙ ap (λ (p : List ℕ). p ++ drop n (drop at chunk)) (ap (λ (k : ℕ). take k (drop at chunk)) e ∙ piece-part chunk at room)
-    ∙ ap (λ (q : List ℕ). piece chunk at room ++ q) (drop-drop n at chunk)
+-- a chunk is a piece of a line and what stands after it
+pub chunk-split : (chunk : List ℕ) (room n : ℕ) → n ≡ length (piece chunk room) → chunk ≡ piece chunk room ++ drop n chunk
+chunk-split chunk room n e =
+    sym (take-append-drop n chunk)
+    ∙ ap (λ (p : List ℕ). p ++ drop n chunk) (ap (λ (k : ℕ). take k chunk) e ∙ piece-part chunk room)

@@ -1,5 +1,4 @@
 -- Crate `interpreter`: its laws.
-pub mod Printing
 pub mod Calling
 pub mod Meaning
 pub mod Steps

@@ -10,8 +10,7 @@ use lib.ListN.{length, drop, replicate, length-append, length-drop, length-repli
 use Rattle.checks.specs.Checks.{OneCheck, checked}
 use Rattle.checks.specs.Buffers.{written}
 use Rattle.checks.specs.Equality.{same}
-use Rattle.calls.specs.declared.Answer.{Answer}
-use Rattle.calls.specs.Answer.{accepted, counted}
+use Rattle.calls.specs.Answer.{Answer, accepted, counted}
 use Rattle.calls.specs.Checks.{draw_checks}
 use Rattle.calls.specs.Call.{Step, step, refuse}
 use Rattle.sponge.specs.declared.record.Record.{Record}
@@ -21,7 +20,7 @@ use Rattle.hub.specs.declared.Hub.{Hub}
 use Rattle.hub.specs.Hub.{record_of, put, standing_of, draw_hub, on_hub}
 use Rattle.script.specs.declared.line.Verb.{Verb}
 use Rattle.script.specs.declared.line.Verb.TheVariants.{Open, Feed, Draw, Check, Close, Sum}
-use Rattle.script.specs.Number.{Reading, found, malformed}
+use Rattle.std.specs.Prelude.{Option, Some, None}
 use Rattle.script.specs.Line.{Field, bytes, count, Line, FieldFits, most_bytes, parse}
 use Rattle.script.proofs.Answers.{answer-long}
 use Rattle.script.proofs.RoundTrip.{printed-lines}
@@ -70,7 +69,7 @@ fits Close n f w h true = omega arith
 fits Sum n f w h true = omega arith
 fits v n f w h false = omega arith
 
-shown_short : (h : Hub) (s : List ℕ) (l : Line) → parse s ≡ found l
+shown_short : (h : Hub) (s : List ℕ) (l : Line) → parse s ≡ Some l
     → length (bytes_for (verb_of (call_of l)) (on_hub (call_of l) h).response.answer (on_hub (call_of l) h).response.buffer) ≤ most_bytes
 unfolding bytes_for call_of
 shown_short h s l e =
@@ -89,11 +88,11 @@ step-short s line = go (eqb s.number 1) (same line names) (leb s.number most_lin
     stop-short : length (step_by s malformed_line).text ≤ longest_answer
     stop-short = answer-long _ _ [] (omega arith)
 
-    read : (r : Reading Line) → parse line ≡ r → length (step_by s (as_call r)).text ≤ longest_answer
-    read (found l) e = answered-short (verb_of (call_of l)) _ _ (shown_short s.hub line l e)
-    read malformed e = stop-short
+    read : (r : Option Line) → parse line ≡ r → length (step_by s (as_call r)).text ≤ longest_answer
+    read (Some l) e = answered-short (verb_of (call_of l)) _ _ (shown_short s.hub line l e)
+    read None e = stop-short
 
-    go : (t u v : Bool) (r : Reading Line) → parse line ≡ r
+    go : (t u v : Bool) (r : Option Line) → parse line ≡ r
         → length (step_by s (cond t (cond u names_line malformed_line) (cond v (as_call r) malformed_line))).text ≤ longest_answer
     go true true v r e = omega arith
     go true false v r e = stop-short

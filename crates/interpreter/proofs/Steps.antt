@@ -7,7 +7,8 @@ use lib.ListN.{take}
 use borrow.Author.Tests.{ne_eqb, lt-ltb, le-ltb}
 use Rattle.script.specs.Text.{newline}
 use Rattle.script.specs.Line.{longest_line}
-use Rattle.interpreter.specs.Session.{stopped, stepped, Reader, after_step, hold, byte_step}
+use Rattle.interpreter.specs.declared.Reader.{Reader}
+use Rattle.interpreter.specs.Session.{stopped, stepped, after_step, hold, byte_step}
 
 pub newline-step : (r : Reader) → r.session.going ≡ true → byte_step r newline ≡ after_step r (stepped r.session (take r.session.held r.line))
 unfolding byte_step

@@ -2,10 +2,9 @@
 -- Assumes nothing.
 use mathlib.Core.Path.{◌≡◌, refl, ap, ap₂, ◌∙◌}
 use mathlib.Core.List.{List, [], ◌∷◌, ◌++◌}
-use Prim.Native.Nat.{ℕ, ◌-◌}
-use native.Mathlib.Omega.{arith}
+use Prim.Native.Nat.{ℕ}
 use borrow.Author.Tests.{ne_eqb}
-use lib.ListN.{length, length-append}
+use lib.ListN.{length}
 use lib.Seq.{take_at, get_or-append_seam}
 use Rattle.calls.specs.Call.{Open as openCall, Event}
 use Rattle.calls.specs.Machine.{machine, empty_machine}
@@ -16,6 +15,7 @@ use Rattle.interpreter.specs.Script.{answer_names, answers, ending_text, script_
 use Rattle.interpreter.specs.Session.{Consumed, finished}
 use Rattle.checks.specs.Joined.{joined}
 use Rattle.interpreter.specs.Theorems.{at_first, printed, OpenBytes, Scripts}
+use Rattle.interpreter.proofs.Calling.{before-end}
 use Rattle.interpreter.proofs.Consuming.{consumed-joined}
 use Rattle.interpreter.proofs.Filling.{filled-parts, parts_whole}
 use Rattle.interpreter.proofs.Bounds.{turns-enough}
@@ -31,10 +31,6 @@ plain : (input : List ℕ) → output on_hub empty_hub input ≡ output machine 
 unfolding output printed_of
 plain input =
     ap (λ (es : List Event). answer_names ++ (answers es ++ ending_text (script_of input).ending)) (hub_law (script_of input).calls).plain
-
--- all but the last byte
-before-end : (key : List ℕ) (n : ℕ) → length (key ++ (n ∷ [])) - 1 ≡ length key
-before-end key n = omega (arith, length-append key (n ∷ []))
 
 pub open-bytes : OpenBytes
 open-bytes = record {

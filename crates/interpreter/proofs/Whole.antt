@@ -16,12 +16,13 @@ use Rattle.calls.specs.Call.{Call, events}
 use Rattle.hub.specs.declared.Hub.{Hub}
 use Rattle.hub.specs.Hub.{empty_hub, on_hub}
 use Rattle.script.specs.Text.{newline}
-use Rattle.script.specs.Number.{malformed}
+use Rattle.std.specs.Prelude.{None}
 use Rattle.script.specs.Line.{longest_line, fields, parse}
 use Rattle.script.specs.Input.{in_front, lines}
 use Rattle.interpreter.specs.declared.Session.{Session}
 use Rattle.interpreter.specs.Script.{names, most_lines, answers, Meaning, names_line, call_line, malformed_line, as_call, meaning, at_the_end, at_line, Script, followed, script_from, script_of, stop_line, ending_text, printed_of}
-use Rattle.interpreter.specs.Session.{begun, step_by, stepped, Reader, Consumed, silent, hold, byte_step, consumed, finished}
+use Rattle.interpreter.specs.declared.Reader.{Reader}
+use Rattle.interpreter.specs.Session.{begun, step_by, stepped, Consumed, silent, hold, byte_step, consumed, finished}
 use Rattle.interpreter.specs.Theorems.{at_first}
 use Rattle.interpreter.proofs.Consuming.{stopped-consumed}
 use Rattle.interpreter.proofs.Steps.{newline-step, hold-step, long-step}
@@ -72,7 +73,7 @@ long-malformed : (k : ℕ) (s : List ℕ) → longest_line < length s → meanin
 unfolding meaning parse
 long-malformed k s h = rw (long-not-names s h, lt-leb (length s) longest_line h) (go (eqb k 1) (leb k most_lines))
   where
-    go : (t u : Bool) → cond t (cond false names_line malformed_line) (cond u (as_call (cond false (fields s) malformed)) malformed_line) ≡ malformed_line
+    go : (t u : Bool) → cond t (cond false names_line malformed_line) (cond u (as_call (cond false (fields s) None)) malformed_line) ≡ malformed_line
     go true u = refl
     go false true = refl
     go false false = refl

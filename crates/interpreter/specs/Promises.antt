@@ -1,29 +1,48 @@
 -- What the functions promise that write into a lent buffer: from a place on, or over the bytes that a line was read into.
 -- Assumes nothing.
-use Rattle.std.specs.Prelude.{◌≡◌, List, ◌++◌, ℕ, ◌+◌, ◌≤◌, ◌<◌, length, drop}
+use Rattle.std.specs.Prelude.{◌≡◌, Bool, List, ◌++◌, ℕ, ◌+◌, ◌≤◌, ◌<◌, length, drop, Result}
+use Rattle.checks.specs.declared.refusal.Refusal.{Refusal}
+use Rattle.calls.specs.declared.Accepted.{Accepted}
+use Rattle.calls.specs.Answer.{answer_of, of_open, of_count, of_check, of_sum}
+use Rattle.calls.specs.Call.{Step}
+use Rattle.hub.specs.declared.Hub.{Hub}
+use Rattle.hub.specs.declared.Reply.{Reply}
 use Rattle.script.specs.declared.line.Verb.{Verb}
 use Rattle.script.specs.declared.line.Verb.TheVariants.{Open, Feed, Draw, Check, Close, Sum}
-use Rattle.script.specs.Text.{Wrote}
-use Rattle.interpreter.specs.declared.line.Stepped.{Stepped}
+use Rattle.script.specs.declared.writer.Writer.{Writer}
+use Rattle.script.specs.Writing.{Puts}
 use Rattle.interpreter.specs.declared.Session.{Session}
-use Rattle.interpreter.specs.declared.Progress.{Progress}
-use Rattle.interpreter.specs.Session.{LineStep, reader_of, longest_answer, filled}
+use Rattle.interpreter.specs.declared.Reader.{Reader}
+use Rattle.interpreter.specs.Session.{LineStep, longest_answer, filled}
+
+-- a call was made: the hub after it, and its answer
+pub record Replying (s : Step Hub) (r : Reply) : Type 0 where
+  pub hub : r.hub ≡ s.after
+  pub answer : answer_of r.answer ≡ s.response.answer
+
+-- an answer of a verb's call
+abbrev pub of_verb : Verb → Result Accepted Refusal → Bool
+of_verb Open a = of_open a
+of_verb Feed a = of_count a
+of_verb Draw a = of_count a
+of_verb Check a = of_check a
+of_verb Close a = of_count a
+of_verb Sum a = of_sum a
 
 -- a line's step was taken: the session after it, and its text in the buffer
-pub record Stepping (s : LineStep) (out : List ℕ) (from : ℕ) (r : Stepped) (after : List ℕ) : Type 0 where
-  pub session : r.session ≡ s.session
-  pub text : Wrote out from s.text after r.size
+pub record Stepping (s : LineStep) (after : Session) (out out' : Writer) : Type 0 where
+  pub session : after ≡ s.session
+  pub text : Puts s.text out out'
 
--- some of a chunk was taken, from place `at` on: it printed this text, which is no longer than one answer; and filling any buffer that has room goes on from there
-pub record Advancing (s : Session) (line chunk : List ℕ) (at : ℕ) (out : List ℕ) (from : ℕ) (r : Progress) (line' out' : List ℕ) : Type 0 where
+-- so many bytes of a chunk were taken: they printed this text, which is no longer than one answer; and filling any buffer that has room goes on from there
+pub record Advancing (r : Reader) (chunk : List ℕ) (n : ℕ) (r' : Reader) (out out' : Writer) : Type 0 where
   pub text : List ℕ
-  pub wrote : Wrote out from text out' r.size
+  pub wrote : Puts text out out'
   pub short : length text ≤ longest_answer
-  pub buffer : length line' ≡ length line
-  pub ahead : at < r.next
-  pub within : r.next ≤ length chunk
+  pub ahead : 0 < n
+  pub within : n ≤ length chunk
   pub taken : (size : ℕ) (before : List ℕ) → length before + longest_answer ≤ size
-      → filled size (reader_of s line) before (drop at chunk) ≡ filled size (reader_of r.session line') (before ++ text) (drop r.next chunk)
+      → filled size r before chunk ≡ filled size r' (before ++ text) (drop n chunk)
 
 -- the bytes that a line was read into, after its call: those drawn, or as they were
 abbrev pub bytes_after : Verb → List ℕ → List ℕ → List ℕ

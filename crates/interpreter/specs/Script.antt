@@ -1,10 +1,9 @@
 -- What a script says, and what is printed of it: document 01's "Script program". A script is run on anything that answers calls: S is a hub, or the plain machine,
 -- `run` what a call makes of it, and `empty` what a script begins with.
 -- Assumes nothing.
-use Rattle.std.specs.Prelude.{Bool, true, false, cond, List, [], ◌∷◌, ◌++◌, ℕ, ◌+◌, ◌-◌, eqb, leb, length, take, get_or, replicate}
+use Rattle.std.specs.Prelude.{Bool, true, false, cond, List, [], ◌∷◌, ◌++◌, ℕ, ◌+◌, ◌-◌, eqb, leb, length, take, get_or, replicate, Option, Some, None}
 use Rattle.checks.specs.Equality.{same}
-use Rattle.calls.specs.declared.Answer.{Answer}
-use Rattle.calls.specs.Answer.{accepted}
+use Rattle.calls.specs.Answer.{Answer, accepted}
 use Rattle.calls.specs.Call.{
   Call,
   Open as openCall,
@@ -22,7 +21,6 @@ use Rattle.script.specs.declared.line.Verb.TheVariants.{Open, Feed, Draw, Check,
 use Rattle.script.specs.declared.answer.Word.{Word}
 use Rattle.script.specs.declared.answer.Word.TheVariants.{Ok, Pass, Fail, No, Stop}
 use Rattle.script.specs.Text.{text}
-use Rattle.script.specs.Number.{Reading, found, malformed}
 use Rattle.script.specs.Line.{Field, Line, parse}
 use Rattle.script.specs.Answer.{answer_line}
 use Rattle.script.specs.Input.{lines}
@@ -132,9 +130,9 @@ pub data Meaning : Type 0 where
   call_line : Call → Meaning
   malformed_line : Meaning
 
-abbrev pub as_call : Reading Line → Meaning
-as_call (found l) = call_line (call_of l)
-as_call malformed = malformed_line
+abbrev pub as_call : Option Line → Meaning
+as_call (Some l) = call_line (call_of l)
+as_call None = malformed_line
 
 -- line 1 is the names; no line comes after the last allowed one
 unfoldable pub meaning : ℕ → List ℕ → Meaning

@@ -1,15 +1,15 @@
 -- A script under way, as the code has it: a session and its line buffer, and what each byte of the input makes of them.
 -- Assumes nothing.
-use Rattle.std.specs.Prelude.{Bool, true, false, cond, not, ◌&&◌, List, [], ◌∷◌, ◌++◌, ℕ, ◌+◌, ◌-◌, eqb, leb, ltb, length, take, drop, set}
+use Rattle.std.specs.Prelude.{Bool, true, false, cond, not, ◌&&◌, List, [], ◌∷◌, ◌++◌, ℕ, ◌+◌, ◌-◌, eqb, leb, ltb, length, take, set}
 use Rattle.calls.specs.Call.{Call}
 use Rattle.hub.specs.declared.Hub.{Hub}
 use Rattle.hub.specs.Hub.{empty_hub, on_hub}
 use Rattle.script.specs.Text.{newline}
 use Rattle.script.specs.Line.{longest_line}
 use Rattle.interpreter.specs.declared.Session.{Session}
+use Rattle.interpreter.specs.declared.Reader.{Reader}
 use Rattle.interpreter.specs.declared.Progress.{Progress}
-use Rattle.interpreter.specs.declared.line.Stepped.{Stepped}
-use Rattle.interpreter.specs.Script.{Meaning, names_line, call_line, malformed_line, meaning, answer_names, answered, verb_of, stop_line}
+use Rattle.interpreter.specs.Script.{Meaning, names_line, call_line, malformed_line, meaning, answered, verb_of, stop_line}
 
 -- line 1 is to be read, and nothing of it was
 unfoldable pub begun : Session
@@ -52,10 +52,6 @@ stepped s line = step_by s (meaning s.number line)
 -- ---- a byte
 
 -- a session and its line buffer
-pub record Reader : Type 0 where
-  pub session : Session
-  pub line : List ℕ
-
 abbrev pub reader_of : Session → List ℕ → Reader
 reader_of s line = record { session = s; line = line }
 
@@ -128,18 +124,10 @@ filled size r text (b ∷ s) =
 abbrev pub output_size : ℕ
 output_size = 65536
 
--- what filling an empty one from a chunk leaves, from place `at` on
-unfoldable pub filled_from : Session → List ℕ → List ℕ → ℕ → Filled
-filled_from s line chunk at = filled output_size (reader_of s line) [] (drop at chunk)
+-- what filling an empty one from a chunk leaves
+unfoldable pub filled_from : Reader → List ℕ → Filled
+filled_from r chunk = filled output_size r [] chunk
 
--- the session after it, the place in the chunk where it stopped, and how much of the buffer it filled
+-- how many of the chunk's bytes were taken, and how much of the buffer is filled
 abbrev pub progress_of : List ℕ → Filled → Progress
-progress_of chunk f = record { session = f.reader.session; next = length chunk - length f.left; size = length f.text }
-
--- the session after bytes were consumed, and how much they printed
-abbrev pub end_of : Consumed → Stepped
-end_of f = record { session = f.reader.session; size = length f.text }
-
--- where a script begins, with the line of names in the output buffer
-abbrev pub begun_progress : Progress
-begun_progress = record { session = begun; next = 0; size = length answer_names }
+progress_of chunk f = record { taken = length chunk - length f.left; size = length f.text }

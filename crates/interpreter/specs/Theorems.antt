@@ -7,7 +7,8 @@ use Rattle.calls.specs.Machine.{machine, empty_machine}
 use Rattle.hub.specs.Hub.{empty_hub, on_hub}
 use Rattle.script.specs.Line.{longest_line}
 use Rattle.interpreter.specs.Script.{open_of, answer_names, output}
-use Rattle.interpreter.specs.Session.{begun, Reader, reader_of, Consumed, silent, and_then, consumed, finished, Filled, filled, output_size}
+use Rattle.interpreter.specs.declared.Reader.{Reader}
+use Rattle.interpreter.specs.Session.{begun, reader_of, Consumed, silent, and_then, consumed, finished, Filled, filled, output_size}
 
 unfoldable pub consumed_all : Reader → List (List ℕ) → Consumed
 consumed_all r [] = silent r

@@ -1,142 +1,95 @@
 // Input in chunks, and an output buffer that its answers fill.
-ghost use Rattle.std.specs.Prelude.{◌≡◌, ◌<◌, length};
+ghost use Rattle.std.specs.Prelude.{◌≡◌, ◌<◌, ◌≤◌, length, replicate};
 ghost use Rattle.checks.specs.Buffers.{written};
 ghost use Rattle.script.specs.Line.{longest_line};
 ghost use Rattle.interpreter.specs.Script.{answer_names};
 ghost use Rattle.interpreter.specs.Session as spec;
 ghost use Rattle.interpreter.specs.Promises.{Advancing};
 
-use crate::line::{Stepped, step, stop};
-use crate::{Progress, Session};
+use crate::{Progress, Reader, Session};
+use script::Writer;
 
-// Takes a chunk's bytes from at on up to the end of a line, or of the chunk.
-fn advance(
-    session: Session,
-    chunk: &[u8],
-    at: usize,
-    line: &mut [u8],
-    out: &mut [u8],
-    from: usize,
-) -> Progress
-    requires { (length line.old ≡ longest_line) × (at < length chunk.now) }
-    ensures { Advancing session line.old chunk.now at out.old from result line.new out.new }
-{
-    if !session.going {
-        return Progress {
-            session: session,
-            next: chunk.len(),
-            size: script::place_in(out, from),
-        };
-    }
-    let held = session.held;
-    let n = script::take_line(chunk, at, line, held);
-    let end = at + n;
-    if end == chunk.len() {
-        return Progress {
-            session: session.hold(held + n),
-            next: end,
-            size: script::place_in(out, from),
-        };
-    }
-    let next = end + 1;
-    if chunk[end] == b'\n' {
-        let size = script::place_in(line, held + n);
-        let stepped = step(session, &line[..size], out, from);
-        let after = stepped.session;
-        return Progress {
-            session: after,
-            next: next,
-            size: stepped.size,
-        };
-    }
-    let stopped = stop(session, out, from);
-    let after = stopped.session;
-    Progress {
-        session: after,
-        next: next,
-        size: stopped.size,
-    }
-}
+// How many bytes the output buffer has.
+pub const OUTPUT_SIZE: usize = 65536;
 
-fn fill_in(session: Session, chunk: &[u8], at: usize, line: &mut [u8], out: &mut [u8]) -> Progress
-    requires { (length line.old ≡ longest_line) × (length out.old ≡ spec.output_size) }
-    ensures progress { result ≡ spec.progress_of chunk.now (spec.filled_from session line.old chunk.now at) }
-    ensures line { line.new ≡ (spec.filled_from session line.old chunk.now at).reader.line }
-    ensures out { out.new ≡ written out.old 0 (spec.filled_from session line.old chunk.now at).text }
-{
-    let mut current = session;
-    let mut next = script::place_in(chunk, at);
-    let mut size = 0;
-    while next < chunk.len() {
-        if out.len() - size < Session::LONGEST_ANSWER {
-            break;
+impl Reader {
+    // A script at its beginning. The line buffer holds nothing of a line yet.
+    pub fn new() -> Reader
+        ensures { result ≡ spec.reader_of spec.begun (replicate longest_line 0) }
+    {
+        Reader {
+            session: Session::first(),
+            // document 01's line buffer, as it is written there
+            line: [0u8; 2100],
         }
-        let moved = advance(current, chunk, next, line, out, size);
-        let after = moved.session;
-        current = after;
-        next = moved.next;
-        size = moved.size;
     }
-    Progress {
-        session: current,
-        next: next,
-        size: size,
+
+    // Takes a chunk's bytes up to the end of a line, or of the chunk, and answers how many.
+    #[tactic(auto, using(crate::proofs::Advancing::advancing))]
+    fn advance(&mut self, chunk: &[u8], out: &mut Writer) -> usize
+        requires some { 0 < length chunk.now }
+        requires room { out.old.at ≤ length out.old.out.now }
+        ensures { Advancing self.old chunk.now result self.new out.old out.new }
+    {
+        if !self.session.going {
+            return chunk.len();
+        }
+        let held = self.session.held;
+        let n = script::take_line(chunk, &mut self.line, held);
+        let size = held + n;
+        if n == chunk.len() {
+            self.session.held = size;
+            return n;
+        }
+        if chunk[n] == b'\n' {
+            let end = size.min(self.line.len());
+            self.session.step(&self.line[..end], out);
+        } else {
+            self.session.stop(out);
+        }
+        n + 1
+    }
+
+    // Takes a chunk's bytes as long as the output buffer has room for one more answer, and puts what they print at its start.
+    // (The answer has a size and no slice of the buffer, which would keep it lent; and the promise is of the whole buffer. So it is in `finish` and `begin`.)
+    pub fn fill(&mut self, chunk: &[u8], out: &mut [u8; OUTPUT_SIZE]) -> Progress
+        ensures progress { result ≡ spec.progress_of chunk.now (spec.filled_from self.old chunk.now) }
+        ensures reader { self.new ≡ (spec.filled_from self.old chunk.now).reader }
+        ensures out { out.new ≡ written out.old 0 (spec.filled_from self.old chunk.now).text }
+    {
+        let mut writer = Writer { out, at: 0 };
+        let mut taken = 0;
+        // How many bytes a turn takes, the line says: no iterator counts them.
+        while taken < chunk.len() && Session::LONGEST_ANSWER <= writer.out.len() - writer.at {
+            taken += self.advance(&chunk[taken..], &mut writer);
+        }
+        Progress {
+            taken,
+            size: writer.at,
+        }
+    }
+
+    // Ends a script with its input: puts what is still printed at the start of the output buffer, and answers how much that is. A newline that is missing is
+    // supplied; so is all of line 1, which is malformed then.
+    #[tactic(auto, using(crate::proofs::Ending::filled_newline), unfolding(crate::specs::Session::finished, checks::specs::Buffers::written))]
+    pub fn finish(&mut self, out: &mut [u8; OUTPUT_SIZE]) -> usize
+        ensures size { result ≡ length (spec.finished self.old).text }
+        ensures reader { self.new ≡ (spec.finished self.old).reader }
+        ensures out { out.new ≡ written out.old 0 (spec.finished self.old).text }
+    {
+        if self.session.complete() {
+            return 0;
+        }
+        self.fill(b"\n", out).size
     }
 }
 
-// Takes a chunk's bytes from at on, as long as the output buffer has room for one more answer, and puts what they print at its start.
-pub fn fill(
-    session: Session,
-    chunk: &[u8],
-    at: usize,
-    line: &mut [u8; 2100],
-    out: &mut [u8; 65536],
-) -> Progress
-    ensures progress { result ≡ spec.progress_of chunk.now (spec.filled_from session line.old chunk.now at) }
-    ensures line { line.new ≡ (spec.filled_from session line.old chunk.now at).reader.line }
-    ensures out { out.new ≡ written out.old 0 (spec.filled_from session line.old chunk.now at).text }
-{
-    fill_in(session, chunk, at, line, out)
-}
-
-fn begin_in(out: &mut [u8]) -> Progress
-    requires { length out.old ≡ spec.output_size }
-    ensures progress { result ≡ spec.begun_progress }
+// Puts the line of names, which a script prints first, at the start of the output buffer, and answers how much that is.
+pub fn begin(out: &mut [u8; OUTPUT_SIZE]) -> usize
+    ensures size { result ≡ length answer_names }
     ensures out { out.new ≡ written out.old 0 answer_names }
 {
-    let size = script::put_bytes(out, 0, b"answer number bytes\n");
-    Progress {
-        session: Session::first(),
-        next: 0,
-        size: size,
-    }
-}
-
-// Begins a script: puts the line of names that is printed first at the start of the output buffer.
-pub fn begin(out: &mut [u8; 65536]) -> Progress
-    ensures progress { result ≡ spec.begun_progress }
-    ensures out { out.new ≡ written out.old 0 answer_names }
-{
-    begin_in(out)
-}
-
-// Ends a script with its input: puts what is still printed at the start of the output buffer. A newline that is missing is supplied; so is all of line 1, which is
-// malformed then.
-pub fn finish(session: Session, line: &mut [u8; 2100], out: &mut [u8; 65536]) -> Stepped
-    ensures stepped { result ≡ spec.end_of (spec.finished (spec.reader_of session line.old)) }
-    ensures line { line.new ≡ (spec.finished (spec.reader_of session line.old)).reader.line }
-    ensures out { out.new ≡ written out.old 0 (spec.finished (spec.reader_of session line.old)).text }
-{
-    if session.complete() {
-        return Stepped {
-            session: session,
-            size: 0,
-        };
-    }
-    let last = fill(session, b"\n", 0, line, out);
-    let after = last.session;
-    Stepped {
-        session: after,
-        size: last.size,
-    }
+    let mut writer = Writer { out, at: 0 };
+    writer.put_bytes(b"answer number bytes\n");
+    writer.at
 }

@@ -8,28 +8,34 @@ mod line;
 ghost use Rattle.std.specs.Prelude.{◌≡◌, ◌<◌};
 ghost use Rattle.interpreter.specs.Session as spec;
 
-pub use chunk::{begin, fill, finish};
+pub use chunk::{OUTPUT_SIZE, begin};
 use hub::Hub;
-pub use line::Stepped;
+use script::LONGEST_LINE;
 
-// A script under way. Beside it stands a line buffer.
+// A script under way.
 #[derive(Clone, Copy)]
 pub struct Session {
     // the hub that its calls are made on
     pub hub: Hub,
     // the number of the line that is being read
     pub number: u32,
-    // how many bytes of that line the buffer holds
+    // how many bytes of that line the line buffer holds. A number and no slice: the buffer of document 01 stands beside it, and is filled over several chunks.
     pub held: usize,
-    // whether it has not stopped
+    // whether it has not stopped. A flag and no enum: a script that has stopped keeps its hub and its line's number, so that every field stands in both cases.
     pub going: bool,
 }
 
-// How far a chunk was taken: the session, the place of the first byte that was not taken, and how much of the output buffer is filled.
+// A script under way with its line buffer: what reads its input.
+#[derive(Clone, Copy)]
+pub struct Reader {
+    pub session: Session,
+    pub line: [u8; LONGEST_LINE],
+}
+
+// How far a chunk was taken: how many of its bytes, and how much of the output buffer is filled.
 #[derive(Clone, Copy)]
 pub struct Progress {
-    pub session: Session,
-    pub next: usize,
+    pub taken: usize,
     pub size: usize,
 }
 
@@ -42,6 +48,7 @@ impl Session {
     pub const LONGEST_ANSWER: usize = 2075;
 
     // Line 1 is to be read, on an empty hub.
+    #[tactic(auto, unfolding(crate::specs::Session::begun))]
     fn first() -> Session
         ensures { result ≡ spec.begun }
     {
@@ -54,41 +61,30 @@ impl Session {
     }
 
     // The next line is to be read.
-    fn go_on(self, after: Hub) -> Session
-        requires { self.number < 4294967295 }
-        ensures { result ≡ spec.go_on self after }
+    fn go_on(&mut self, after: Hub)
+        requires { self.old.number < 4294967295 }
+        ensures { self.new ≡ spec.go_on self.old after }
     {
-        Session {
+        *self = Session {
             hub: after,
             number: self.number + 1,
             held: 0,
             going: true,
-        }
-    }
-
-    // The buffer holds so many bytes of the line.
-    fn hold(self, held: usize) -> Session
-        ensures { result ≡ spec.holding self held }
-    {
-        let mut session = self;
-        session.held = held;
-        session
+        };
     }
 
     // Nothing of a line was read, and this is not line 1.
-    fn complete(self) -> bool
-        ensures { result ≡ spec.complete self }
+    fn complete(&self) -> bool
+        ensures { result ≡ spec.complete self.now }
     {
         self.held == 0 && self.number != 1
     }
 
     // The script has stopped.
-    fn halt(self) -> Session
-        ensures { result ≡ spec.halted self }
+    fn halt(&mut self)
+        ensures { self.new ≡ spec.halted self.old }
     {
-        let mut session = self;
-        session.held = 0;
-        session.going = false;
-        session
+        self.held = 0;
+        self.going = false;
     }
 }

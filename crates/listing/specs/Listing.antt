@@ -1,14 +1,15 @@
 -- Lists of calls as text: a line for each call, with its arguments and, after `=`, every field of its answer and the lent buffer as the call leaves it.
 -- Assumes nothing.
 use Rattle.std.specs.Prelude.{◌≡◌, Bool, cond, List, [], ◌∷◌, ◌++◌, ℕ}
-use Rattle.calls.specs.declared.Answer.{Answer}
+use Rattle.calls.specs.Answer.{Answer}
 use Rattle.calls.specs.Call.{Call, Open, Feed, Draw, Check, Close, Sum, Response, Event, events, final}
 use Rattle.hub.specs.declared.Hub.{Hub}
 use Rattle.hub.specs.Hub.{on_hub}
-use Rattle.script.specs.Text.{text, space, newline, Wrote}
+use Rattle.script.specs.Text.{text, space, newline}
 use Rattle.script.specs.Number.{decimal}
 use Rattle.script.specs.Hex.{bytes_text}
-use Rattle.listing.specs.declared.Listed.{Listed}
+use Rattle.script.specs.Writing.{Puts}
+use Rattle.listing.specs.declared.Listing.{Listing}
 
 -- ---- a line
 
@@ -61,8 +62,12 @@ unfoldable pub lines : List Event → List ℕ
 lines [] = []
 lines (e ∷ es) = line e ++ lines es
 
--- The calls were made on the hub `before`, one after the other, and their lines put into a lent buffer, which was `first`, from place `at` on: `r` has the hub after
--- them and the place behind the text, and `last` is the buffer then. What does not fit is left out.
-pub record Lists (calls : List Call) (before : Hub) (first : List ℕ) (at : ℕ) (last : List ℕ) (r : Listed) : Type 0 where
-  pub hub : r.hub ≡ final on_hub before calls
-  pub text : Wrote first at (lines (events on_hub before calls)) last r.next
+-- A text was put, and this is the hub then. The writer is the same one.
+pub record Listed (put : List ℕ) (left : Hub) (before after : Listing) : Type 0 where
+  pub hub : after.hub ≡ left
+  pub same : after.out.ghost_name ≡ before.out.ghost_name
+  pub text : Puts put before.out.now after.out.now
+
+-- The calls were made one after the other, and their lines put.
+pub record Lists (calls : List Call) (before after : Listing) : Type 0 where
+  pub listed : Listed (lines (events on_hub before.hub calls)) (final on_hub before.hub calls) before after

@@ -2,202 +2,189 @@
 #![tactic(auto)]
 
 ghost use Rattle.std.specs.Prelude.{◌≡◌, [], ◌∷◌, ◌++◌};
+ghost use Rattle.calls.specs.Answer.{answer_of};
 ghost use Rattle.calls.specs.Call as call;
 ghost use Rattle.hub.specs.Hub.{draw_hub};
-ghost use Rattle.script.specs.Text.{Wrote};
+ghost use Rattle.script.specs.Writing.{Puts};
 ghost use Rattle.listing.specs.Listing as spec;
 
-use calls::Answer;
-use hub::Hub;
-use script::{put_byte, put_bytes, put_decimal, put_field};
+use calls::{Accepted, Answer};
+use hub::{Hub, Reply};
+use script::Writer;
 
-// The hub after some calls, and the place after their text.
-#[derive(Clone, Copy)]
-pub struct Listed {
-    pub hub: Hub,
-    pub next: usize,
+// ---- a line
+
+#[tactic(auto, using(script::proofs::Texts::parts), unfolding(crate::specs::Listing::number_field))]
+pub fn put_number(out: &mut Writer, n: u64)
+    ensures { Puts (spec.number_field n) out.old out.new }
+{
+    out.put_byte(b' ');
+    out.put_decimal(n);
 }
 
-// ---- a line: each function takes the place to write at, and answers the place after what it wrote
-
-pub fn put_number(text: &mut [u8], at: usize, n: u64) -> usize
-    ensures { Wrote text.old at (spec.number_field n) text.new result }
+#[tactic(auto, using(script::proofs::Texts::parts), unfolding(crate::specs::Listing::bytes_field))]
+fn put_hex_field(out: &mut Writer, bytes: &[u8])
+    ensures { Puts (spec.bytes_field bytes.now) out.old out.new }
 {
-    let after_space = put_byte(text, at, b' ');
-    put_decimal(text, after_space, n)
+    out.put_byte(b' ');
+    out.put_field(bytes);
 }
 
-fn put_hex_field(text: &mut [u8], at: usize, bytes: &[u8]) -> usize
-    ensures { Wrote text.old at (spec.bytes_field bytes.now) text.new result }
+#[tactic(auto, using(script::proofs::Texts::parts), unfolding(crate::specs::Listing::numbered))]
+fn put_numbered(out: &mut Writer, name: &[u8], n: u64)
+    ensures { Puts (spec.numbered name.now n) out.old out.new }
 {
-    let after_space = put_byte(text, at, b' ');
-    put_field(text, after_space, bytes)
+    out.put_bytes(name);
+    put_number(out, n);
 }
 
-fn put_numbered(text: &mut [u8], at: usize, name: &[u8], n: u64) -> usize
-    ensures { Wrote text.old at (spec.numbered name.now n) text.new result }
-{
-    let after_name = put_bytes(text, at, name);
-    put_number(text, after_name, n)
+// The fields that are listed of an answer: document 01's five, as numbers and a verdict, since they are only printed. Those that it does not have are 0.
+#[derive(Clone, Copy, Default)]
+struct Fields {
+    refusal: u32,
+    ticket: u32,
+    runs: u64,
+    passed: bool,
+    sum: u64,
 }
 
-fn bit(b: bool) -> u64
-    ensures { result ≡ spec.bit b }
+#[tactic(auto, using(script::proofs::Texts::parts), unfolding(crate::specs::Listing::answer_text))]
+fn put_fields(out: &mut Writer, fields: Fields)
+    ensures { Puts (spec.answer_text (record { refusal = fields.refusal; ticket = fields.ticket; runs = fields.runs; passed = fields.passed; sum = fields.sum })) out.old out.new }
 {
-    if b {
-        return 1;
-    }
-    0
+    put_numbered(out, b" refusal", u64::from(fields.refusal));
+    put_numbered(out, b" ticket", u64::from(fields.ticket));
+    put_numbered(out, b" runs", fields.runs);
+    put_numbered(out, b" passed", u64::from(fields.passed));
+    put_numbered(out, b" sum", fields.sum);
 }
 
-fn put_answer(text: &mut [u8], at: usize, answer: Answer) -> usize
-    ensures { Wrote text.old at (spec.answer_text answer) text.new result }
+fn put_answer(out: &mut Writer, answer: Answer)
+    ensures { Puts (spec.answer_text (answer_of answer)) out.old out.new }
 {
-    let after_refusal = put_numbered(text, at, b" refusal", answer.refusal as u64);
-    let after_ticket = put_numbered(text, after_refusal, b" ticket", answer.ticket as u64);
-    let after_runs = put_numbered(text, after_ticket, b" runs", answer.runs);
-    let after_passed = put_numbered(text, after_runs, b" passed", bit(answer.passed));
-    put_numbered(text, after_passed, b" sum", answer.sum)
+    let none = Fields::default();
+    let fields = match answer {
+        Ok(Accepted::Opened { ticket, runs }) => Fields {
+            ticket,
+            runs,
+            ..none
+        },
+        Ok(Accepted::Counted(runs)) => Fields { runs, ..none },
+        Ok(Accepted::Judged { passed, runs }) => Fields {
+            runs,
+            passed,
+            ..none
+        },
+        Ok(Accepted::Summed(sum)) => Fields { sum, ..none },
+        Err(refusal) => Fields {
+            refusal: refusal.number(),
+            ..none
+        },
+    };
+    put_fields(out, fields);
 }
 
 // The answer, the buffer as the call leaves it, and the line's end.
-fn put_response(text: &mut [u8], at: usize, answer: Answer, buffer: &[u8]) -> usize
-    ensures { Wrote text.old at (spec.response_text (record { answer = answer; buffer = buffer.now })) text.new result }
+#[tactic(auto, using(script::proofs::Texts::parts), unfolding(crate::specs::Listing::response_text))]
+fn put_response(out: &mut Writer, answer: Answer, buffer: &[u8])
+    ensures { Puts (spec.response_text (record { answer = answer_of answer; buffer = buffer.now })) out.old out.new }
 {
-    let after_equals = put_bytes(text, at, b" =");
-    let after_answer = put_answer(text, after_equals, answer);
-    let after_buffer = put_hex_field(text, after_answer, buffer);
-    put_byte(text, after_buffer, b'\n')
+    out.put_bytes(b" =");
+    put_answer(out, answer);
+    put_hex_field(out, buffer);
+    out.put_byte(b'\n');
 }
 
 // The name of a call, its number and its bytes.
-pub fn put_call(text: &mut [u8], at: usize, name: &[u8], number: u32, bytes: &[u8]) -> usize
-    ensures { Wrote text.old at (spec.three_fields name.now number bytes.now) text.new result }
+#[tactic(auto, using(script::proofs::Texts::parts), unfolding(crate::specs::Listing::three_fields))]
+pub fn put_call(out: &mut Writer, name: &[u8], number: u32, bytes: &[u8])
+    ensures { Puts (spec.three_fields name.now number bytes.now) out.old out.new }
 {
-    let after_number = put_numbered(text, at, name, number as u64);
-    put_hex_field(text, after_number, bytes)
+    put_numbered(out, name, u64::from(number));
+    put_hex_field(out, bytes);
 }
 
 // The line of a call to which no buffer is lent.
-pub fn put_line(
-    text: &mut [u8],
-    at: usize,
-    name: &[u8],
-    number: u32,
-    bytes: &[u8],
-    answer: Answer,
-) -> usize
-    ensures { Wrote text.old at (spec.three_fields name.now number bytes.now ++ spec.response_text (record { answer = answer; buffer = [] })) text.new result }
+#[tactic(auto, using(script::proofs::Texts::parts))]
+pub fn put_line(out: &mut Writer, name: &[u8], number: u32, bytes: &[u8], answer: Answer)
+    ensures { Puts (spec.three_fields name.now number bytes.now ++ spec.response_text (record { answer = answer_of answer; buffer = [] })) out.old out.new }
 {
-    let after_call = put_call(text, at, name, number, bytes);
-    put_response(text, after_call, answer, b"")
+    put_call(out, name, number, bytes);
+    put_response(out, answer, b"");
 }
 
-// An open, with its tag length.
-fn put_open(text: &mut [u8], at: usize, mode: u32, key: &[u8], length: u32) -> usize
-    ensures { Wrote text.old at (spec.call_text (call.Open mode key.now length)) text.new result }
-{
-    let after_call = put_call(text, at, b"open", mode, key);
-    put_number(text, after_call, length as u64)
+// ---- the calls
+
+// A hub, and the list of the calls that are made on it. The hub goes from call to call by value.
+// The writer is lent: of a writer that stood here by value, whoever lent it its buffer would not learn what the buffer is left with.
+#[derive(Drop)]
+pub struct Listing<'a, 'b> {
+    pub hub: Hub,
+    pub out: &'a mut Writer<'b>,
 }
 
-// A draw, with the buffer as it is lent.
-fn put_draw(
-    text: &mut [u8],
-    at: usize,
-    ticket: u32,
-    lent: &[u8],
-    place: usize,
-    count: usize,
-) -> usize
-    ensures { Wrote text.old at (spec.call_text (call.Draw ticket lent.now place count)) text.new result }
-{
-    let after_call = put_call(text, at, b"draw", ticket, lent);
-    let after_place = put_number(text, after_call, place as u64);
-    put_number(text, after_place, count as u64)
-}
-
-// ---- the calls: each is made on a hub by value, and its line put into the buffer
-
-pub fn open(before: Hub, mode: u32, key: &[u8], length: u32, text: &mut [u8], at: usize) -> Listed
-    ensures { spec.Lists (call.Open mode key.now length ∷ []) before text.old at text.new result }
-{
-    let reply = hub::open(before, mode, key, length);
-    let after_call = put_open(text, at, mode, key, length);
-    let next = put_response(text, after_call, reply.answer, b"");
-    let after = reply.hub;
-    Listed {
-        hub: after,
-        next: next,
+// There is a method for each call, with the name and the arguments of the hub's function: a value that named the call would bring its bytes and its lent buffer
+// with it. What the methods share is in `put_call` and `took`; what is left of a call is its name and the call itself.
+impl Listing<'_, '_> {
+    // The rest of a call's line: what the call gave.
+    fn took(&mut self, reply: Reply, buffer: &[u8])
+        ensures { spec.Listed (spec.response_text (record { answer = answer_of reply.answer; buffer = buffer.now })) reply.hub self.old self.new }
+    {
+        put_response(self.out, reply.answer, buffer);
+        self.hub = reply.hub;
     }
-}
 
-pub fn feed(before: Hub, ticket: u32, bytes: &[u8], text: &mut [u8], at: usize) -> Listed
-    ensures { spec.Lists (call.Feed ticket bytes.now ∷ []) before text.old at text.new result }
-{
-    let reply = hub::feed(before, ticket, bytes);
-    let next = put_line(text, at, b"feed", ticket, bytes, reply.answer);
-    let after = reply.hub;
-    Listed {
-        hub: after,
-        next: next,
+    #[tactic(auto, using(script::proofs::Texts::parts, crate::proofs::Lists::calls), unfolding(hub::specs::Hub::on_hub, crate::specs::Listing::call_text))]
+    pub fn open(&mut self, mode: u32, key: &[u8], length: u32)
+        ensures { spec.Lists (call.Open mode key.now length ∷ []) self.old self.new }
+    {
+        put_call(self.out, b"open", mode, key);
+        put_number(self.out, u64::from(length));
+        self.took(hub::open(self.hub, mode, key, length), b"");
     }
-}
 
-pub fn draw(
-    before: Hub,
-    ticket: u32,
-    buffer: &mut [u8],
-    place: usize,
-    count: usize,
-    text: &mut [u8],
-    at: usize,
-) -> Listed
-    ensures lists { spec.Lists (call.Draw ticket buffer.old place count ∷ []) before text.old at text.new result }
-    ensures written { buffer.new ≡ (draw_hub ticket buffer.old place count before).response.buffer }
-{
-    let after_call = put_draw(text, at, ticket, &*buffer, place, count);
-    let reply = hub::draw(before, ticket, &mut *buffer, place, count);
-    let next = put_response(text, after_call, reply.answer, &*buffer);
-    let after = reply.hub;
-    Listed {
-        hub: after,
-        next: next,
+    #[tactic(auto, using(script::proofs::Texts::parts, crate::proofs::Lists::calls), unfolding(hub::specs::Hub::on_hub, crate::specs::Listing::call_text))]
+    pub fn feed(&mut self, ticket: u32, bytes: &[u8])
+        ensures { spec.Lists (call.Feed ticket bytes.now ∷ []) self.old self.new }
+    {
+        put_call(self.out, b"feed", ticket, bytes);
+        self.took(hub::feed(self.hub, ticket, bytes), b"");
     }
-}
 
-pub fn check(before: Hub, ticket: u32, tag: &[u8], text: &mut [u8], at: usize) -> Listed
-    ensures { spec.Lists (call.Check ticket tag.now ∷ []) before text.old at text.new result }
-{
-    let reply = hub::check(before, ticket, tag);
-    let next = put_line(text, at, b"check", ticket, tag, reply.answer);
-    let after = reply.hub;
-    Listed {
-        hub: after,
-        next: next,
+    // The buffer is listed as it is lent, and as the draw leaves it.
+    #[tactic(auto, using(script::proofs::Texts::parts, crate::proofs::Lists::calls), unfolding(hub::specs::Hub::on_hub, crate::specs::Listing::call_text))]
+    pub fn draw(&mut self, ticket: u32, buffer: &mut [u8], place: usize, count: usize)
+        ensures lists { spec.Lists (call.Draw ticket buffer.old place count ∷ []) self.old self.new }
+        ensures written { buffer.new ≡ (draw_hub ticket buffer.old place count self.old.hub).response.buffer }
+    {
+        put_call(self.out, b"draw", ticket, buffer);
+        put_number(self.out, place as u64);
+        put_number(self.out, count as u64);
+        let reply = hub::draw(self.hub, ticket, buffer, place, count);
+        self.took(reply, buffer);
     }
-}
 
-pub fn close(before: Hub, ticket: u32, text: &mut [u8], at: usize) -> Listed
-    ensures { spec.Lists (call.Close ticket ∷ []) before text.old at text.new result }
-{
-    let reply = hub::close(before, ticket);
-    let next = put_line(text, at, b"close", ticket, b"", reply.answer);
-    let after = reply.hub;
-    Listed {
-        hub: after,
-        next: next,
+    #[tactic(auto, using(script::proofs::Texts::parts, crate::proofs::Lists::calls), unfolding(hub::specs::Hub::on_hub, crate::specs::Listing::call_text))]
+    pub fn check(&mut self, ticket: u32, tag: &[u8])
+        ensures { spec.Lists (call.Check ticket tag.now ∷ []) self.old self.new }
+    {
+        put_call(self.out, b"check", ticket, tag);
+        self.took(hub::check(self.hub, ticket, tag), b"");
     }
-}
 
-pub fn sum(before: Hub, text: &mut [u8], at: usize) -> Listed
-    ensures { spec.Lists (call.Sum ∷ []) before text.old at text.new result }
-{
-    let reply = hub::sum(before);
-    let next = put_line(text, at, b"sum", 0, b"", reply.answer);
-    let after = reply.hub;
-    Listed {
-        hub: after,
-        next: next,
+    #[tactic(auto, using(script::proofs::Texts::parts, crate::proofs::Lists::calls), unfolding(hub::specs::Hub::on_hub, crate::specs::Listing::call_text))]
+    pub fn close(&mut self, ticket: u32)
+        ensures { spec.Lists (call.Close ticket ∷ []) self.old self.new }
+    {
+        put_call(self.out, b"close", ticket, b"");
+        self.took(hub::close(self.hub, ticket), b"");
+    }
+
+    #[tactic(auto, using(script::proofs::Texts::parts, crate::proofs::Lists::calls), unfolding(hub::specs::Hub::on_hub, crate::specs::Listing::call_text))]
+    pub fn sum(&mut self)
+        ensures { spec.Lists (call.Sum ∷ []) self.old self.new }
+    {
+        put_call(self.out, b"sum", 0, b"");
+        self.took(hub::sum(self.hub), b"");
     }
 }

@@ -3,30 +3,67 @@
 // out anew.
 #![tactic(auto)]
 
-ghost use Rattle.std.specs.Prelude.{◌≡◌, [], ◌∷◌, ◌≤◌, length, replicate};
-ghost use Rattle.calls.specs.Call.{Open, Draw};
+ghost use Rattle.std.specs.Prelude.{◌≡◌, [], ◌∷◌, length, replicate};
+ghost use Rattle.calls.specs.Answer.{answer_of};
+ghost use Rattle.calls.specs.Call.{Open, Draw, events, final};
+ghost use Rattle.hub.specs.Hub.{feed_hub, close_hub, on_hub};
 ghost use Rattle.script.specs.Text.{Wrote};
-ghost use Rattle.listing.specs.Listing.{Lists};
+ghost use Rattle.script.specs.Writing.{Puts};
+ghost use Rattle.listing.specs.Listing.{Lists, lines};
 ghost use Rattle.mainloop.specs.Kept as kept;
 ghost use Rattle.mainloop.specs.Rounds as spec;
 
-use calls::Answer;
+use calls::{Accepted, Answer};
 use hub::Hub;
-use listing::Listed;
+use listing::Listing;
+use script::Writer;
+
+// Standard output, as `io` numbers it. std's writers promise no more of a write than `io::write_all` does, and want the runtime.
+const STDOUT: i32 = 1;
 
 const ROUNDS: usize = 150;
 
-// What the calls of all rounds were answered, a round's feed and close one after the other.
-#[derive(Clone, Copy)]
-struct Answers {
-    kept: [Answer; 300],
+// ---- how a round calls its hub
+
+// Feed and close. What they promise is the same for every way of calling.
+trait Calling {
+    fn feed(hub: &mut Hub, ticket: u32, bytes: &[u8]) -> Answer
+        ensures answer { answer_of result ≡ (feed_hub ticket bytes.now hub.old).response.answer }
+        ensures after { hub.new ≡ (feed_hub ticket bytes.now hub.old).after };
+
+    fn close(hub: &mut Hub, ticket: u32) -> Answer
+        ensures answer { answer_of result ≡ (close_hub ticket hub.old).response.answer }
+        ensures after { hub.new ≡ (close_hub ticket hub.old).after };
 }
 
-// What rounds leave.
-#[derive(Clone, Copy)]
-struct Served {
-    hub: Hub,
-    answers: Answers,
+// The hub is handed on by value, and the one that is given back takes its place.
+struct ByValue;
+
+impl Calling for ByValue {
+    fn feed(hub: &mut Hub, ticket: u32, bytes: &[u8]) -> Answer {
+        let fed = hub::feed(*hub, ticket, bytes);
+        *hub = fed.hub;
+        fed.answer
+    }
+
+    fn close(hub: &mut Hub, ticket: u32) -> Answer {
+        let closed = hub::close(*hub, ticket);
+        *hub = closed.hub;
+        closed.answer
+    }
+}
+
+// The hub stays where it is, and is lent.
+struct InPlace;
+
+impl Calling for InPlace {
+    fn feed(hub: &mut Hub, ticket: u32, bytes: &[u8]) -> Answer {
+        controller::feed(hub, ticket, bytes)
+    }
+
+    fn close(hub: &mut Hub, ticket: u32) -> Answer {
+        controller::close(hub, ticket)
+    }
 }
 
 // ---- the rounds: each feeds a message to one ticket and closes another. Some tickets are never issued, and some are closed before.
@@ -43,211 +80,137 @@ fn close_ticket(i: usize) -> u32
     (i / 16 * 3 % 13) as u32
 }
 
-// The answers of round i are kept. There is room for all rounds; of a later one nothing is kept.
-fn keep(answers: Answers, i: usize, fed: Answer, closed: Answer) -> Answers
-    ensures { result ≡ kept.keep i fed closed answers }
-{
-    let mut kept = answers.kept;
-    if i < ROUNDS {
-        kept[2 * i] = fed;
-        kept[2 * i + 1] = closed;
-    }
-    Answers { kept: kept }
-}
-
-// What rounds leave, as one value.
-fn after_rounds(hub: Hub, answers: Answers) -> Served
-    ensures { result ≡ record { hub = hub; answers = answers } }
-{
-    Served {
-        hub: hub,
-        answers: answers,
-    }
-}
-
-// The hub handed on by value.
-fn serve_by_value(hub: Hub, answers: Answers, bytes: &[u8], rounds: usize) -> Served
-    ensures { result ≡ kept.served_from 0 rounds bytes.now (record { hub = hub; answers = answers }) }
-{
-    let mut current = hub;
-    let mut kept = answers;
-    let mut i = 0;
-    while i < rounds {
-        let fed = hub::feed(current, feed_ticket(i), bytes);
-        let closed = hub::close(fed.hub, close_ticket(i));
-        kept = keep(kept, i, fed.answer, closed.answer);
-        current = closed.hub;
-        i += 1;
-    }
-    after_rounds(current, kept)
-}
-
-// The hub held here and lent.
-fn serve_in_place(hub: Hub, answers: Answers, bytes: &[u8], rounds: usize) -> Served
-    ensures { result ≡ kept.served_from 0 rounds bytes.now (record { hub = hub; answers = answers }) }
-{
-    let mut held = hub;
-    let mut kept = answers;
-    let mut i = 0;
-    while i < rounds {
-        let fed = controller::feed(&mut held, feed_ticket(i), bytes);
-        let closed = controller::close(&mut held, close_ticket(i));
-        kept = keep(kept, i, fed, closed);
-        i += 1;
-    }
-    after_rounds(held, kept)
-}
-
-// All rounds, in one of the two ways.
-fn serve(hub: Hub, answers: Answers, bytes: &[u8], in_place: bool) -> Served
-    ensures { result ≡ kept.served_from 0 spec.rounds bytes.now (record { hub = hub; answers = answers }) }
-{
-    if in_place {
-        return serve_in_place(hub, answers, bytes, ROUNDS);
-    }
-    serve_by_value(hub, answers, bytes, ROUNDS)
-}
-
-// ---- the list of all calls. Each function takes the place to write at, which is in the buffer or at its end.
-
-fn put_round(
-    text: &mut [u8],
-    at: usize,
-    i: usize,
-    bytes: &[u8],
+// What the two calls of a round were answered.
+#[derive(Clone, Copy)]
+struct Answered {
     fed: Answer,
     closed: Answer,
-) -> usize
-    ensures { Wrote text.old at (kept.round_text i bytes.now fed closed) text.new result }
-{
-    let after_feed = listing::put_line(text, at, b"feed", feed_ticket(i), bytes, fed);
-    listing::put_line(text, after_feed, b"close", close_ticket(i), b"", closed)
 }
 
-fn put_rounds(text: &mut [u8], at: usize, bytes: &[u8], answers: Answers) -> usize
-    requires { at ≤ length text.old }
-    ensures { Wrote text.old at (kept.rounds_text 0 spec.rounds bytes.now answers) text.new result }
+// A round for each place that its answers are kept in. The hub after them is given back.
+#[tactic(auto, using(listing::proofs::Lists::lists, crate::proofs::RoundList::rounds_made, crate::proofs::Kept::rounds_kept))]
+fn serve<C: Calling>(mut hub: Hub, bytes: &[u8], answers: &mut [Answered]) -> Hub
+    ensures hub { result ≡ final on_hub hub (spec.rounds_from 0 (length answers.old) bytes.now) }
+    ensures answers { kept.rounds_text 0 bytes.now answers.new ≡ lines (events on_hub hub (spec.rounds_from 0 (length answers.old) bytes.now)) }
 {
-    let kept = answers.kept;
-    let mut next = at;
-    let mut i = 0;
-    while i < ROUNDS {
-        next = put_round(text, next, i, bytes, kept[2 * i], kept[2 * i + 1]);
-        i += 1;
+    for (i, answered) in answers.iter_mut().enumerate() {
+        let fed = C::feed(&mut hub, feed_ticket(i), bytes);
+        let closed = C::close(&mut hub, close_ticket(i));
+        *answered = Answered { fed, closed };
     }
-    next
+    hub
+}
+
+// ---- the list of all calls
+
+#[tactic(auto, using(script::proofs::Texts::parts), unfolding(crate::specs::Kept::round_text, listing::specs::Listing::line, listing::specs::Listing::call_text))]
+fn put_round(out: &mut Writer, i: usize, bytes: &[u8], answered: Answered)
+    ensures { Puts (kept.round_text i bytes.now (answer_of answered.fed) (answer_of answered.closed)) out.old out.new }
+{
+    listing::put_line(out, b"feed", feed_ticket(i), bytes, answered.fed);
+    listing::put_line(out, b"close", close_ticket(i), b"", answered.closed);
+}
+
+#[tactic(auto, using(script::proofs::Texts::parts, crate::proofs::Kept::rounds_listed))]
+fn put_rounds(out: &mut Writer, bytes: &[u8], answers: &[Answered])
+    ensures { Puts (kept.rounds_text 0 bytes.now answers.now) out.old out.new }
+{
+    // From here on the place is in the buffer, before the first round too.
+    out.put_nothing();
+    for (i, answered) in answers.iter().enumerate() {
+        put_round(out, i, bytes, *answered);
+    }
 }
 
 // The rounds are made, and then listed by their answers.
-fn rounds(before: Hub, in_place: bool, bytes: &[u8], text: &mut [u8], at: usize) -> Listed
-    requires { at ≤ length text.old }
-    ensures { Lists (spec.rounds_from 0 spec.rounds bytes.now) before text.old at text.new result }
+fn rounds<C: Calling>(list: &mut Listing, bytes: &[u8])
+    ensures { Lists (spec.rounds_from 0 spec.rounds bytes.now) list.old list.new }
 {
-    let none = Answer::refused(0);
-    let unanswered = Answers { kept: [none; 300] };
-    let served = serve(before, unanswered, bytes, in_place);
-    let answers = served.answers;
-    let next = put_rounds(text, at, bytes, answers);
-    let after = served.hub;
-    Listed {
-        hub: after,
-        next: next,
-    }
+    let none = Ok(Accepted::Counted(0));
+    let mut answers = [Answered {
+        fed: none,
+        closed: none,
+    }; ROUNDS];
+    list.hub = serve::<C>(list.hub, bytes, &mut answers);
+    put_rounds(list.out, bytes, &answers);
 }
 
 // Eight tickets of one mode, with tags of sixteen bytes where it has tags.
-fn open_eight(before: Hub, mode: u32, key: &[u8], text: &mut [u8], at: usize) -> Listed
-    requires { at ≤ length text.old }
-    ensures { Lists (replicate 8 (Open mode key.now 16)) before text.old at text.new result }
+#[tactic(auto, using(script::proofs::Texts::parts, listing::proofs::Lists::lists, std::proofs::lemmas::Grind::replicate_next))]
+fn open_eight(list: &mut Listing, mode: u32, key: &[u8])
+    ensures { Lists (replicate 8 (Open mode key.now 16)) list.old list.new }
 {
-    let mut current = Listed {
-        hub: before,
-        next: at,
-    };
-    let mut i = 0usize;
-    while i < 8 {
-        let before_open = current.hub;
-        current = listing::open(before_open, mode, key, 16, text, current.next);
-        i += 1;
+    // From here on the place is in the buffer, before the first call too.
+    list.out.put_nothing();
+    // By its type the invariant counts in natural numbers; of a bare 8, an i32, it would count in integers.
+    for _ in 0..8usize {
+        list.open(mode, key, 16);
     }
-    current
 }
 
 // So many bytes drawn from a ticket.
-fn draw(before: Hub, ticket: u32, count: usize, text: &mut [u8], at: usize) -> Listed
-    ensures { Lists (Draw ticket spec.lent_out 0 count ∷ []) before text.old at text.new result }
+fn draw(list: &mut Listing, ticket: u32, count: usize)
+    ensures { Lists (Draw ticket spec.lent_out 0 count ∷ []) list.old list.new }
 {
-    let mut out = [170u8; 16];
-    listing::draw(before, ticket, &mut out, 0, count, text, at)
+    let mut buffer = [170u8; 16];
+    list.draw(ticket, &mut buffer, 0, count);
 }
 
 // From every ticket, closed ones too, and from 25, which was never issued.
-fn draw_all(before: Hub, text: &mut [u8], at: usize) -> Listed
-    requires { at ≤ length text.old }
-    ensures { Lists (spec.draws_from 1 25) before text.old at text.new result }
+#[tactic(auto, using(script::proofs::Texts::parts, listing::proofs::Lists::lists, crate::proofs::RoundList::draws_made))]
+fn draw_all(list: &mut Listing)
+    ensures { Lists (spec.draws_from 1 25) list.old list.new }
 {
-    let mut current = Listed {
-        hub: before,
-        next: at,
-    };
-    let mut ticket = 1u32;
-    while ticket < 26 {
-        let before_draw = current.hub;
-        current = draw(before_draw, ticket, 16, text, current.next);
-        ticket += 1;
+    // From here on the place is in the buffer, before the first call too.
+    list.out.put_nothing();
+    for ticket in 1..26 {
+        draw(list, ticket, 16);
     }
-    current
 }
 
 // Eight MAC tickets and eight of the hash, one of which takes no more bytes.
-fn opening(before: Hub, key: &[u8], text: &mut [u8], at: usize) -> Listed
-    requires { at ≤ length text.old }
-    ensures { Lists (spec.opening key.now) before text.old at text.new result }
+fn opening(list: &mut Listing, key: &[u8])
+    ensures { Lists (spec.opening key.now) list.old list.new }
 {
-    let keyed = open_eight(before, 2, key, text, at);
-    let after_keyed = keyed.hub;
-    let unkeyed = open_eight(after_keyed, 3, b"", text, keyed.next);
-    let after_unkeyed = unkeyed.hub;
-    draw(after_unkeyed, 14, 3, text, unkeyed.next)
+    open_eight(list, 2, key);
+    open_eight(list, 3, b"");
+    draw(list, 14, 3);
 }
 
 // Tickets come into places that are free again, every ticket is drawn from, and the sum is taken.
-fn ending(before: Hub, key: &[u8], text: &mut [u8], at: usize) -> Listed
-    requires { at ≤ length text.old }
-    ensures { Lists (spec.ending key.now) before text.old at text.new result }
+fn ending(list: &mut Listing, key: &[u8])
+    ensures { Lists (spec.ending key.now) list.old list.new }
 {
-    let opened = open_eight(before, 1, key, text, at);
-    let after_opened = opened.hub;
-    let drawn = draw_all(after_opened, text, opened.next);
-    let after_drawn = drawn.hub;
-    listing::sum(after_drawn, text, drawn.next)
+    open_eight(list, 1, key);
+    draw_all(list);
+    list.sum();
 }
 
 // All calls, on a hub that is lent or handed on by value: the text is the same. Between the rounds a wrong tag closes ticket 4, and later feeds to it are refused.
-fn list(in_place: bool, key: &[u8], few: &[u8], message: &[u8], text: &mut [u8], at: usize) -> usize
-    ensures { Wrote text.old at (spec.list_text key.now few.now message.now) text.new result }
+#[tactic(auto, using(script::proofs::Texts::parts, listing::proofs::Lists::lists), unfolding(crate::specs::Rounds::list_text, crate::specs::Rounds::all_calls))]
+fn list<C: Calling>(key: &[u8], few: &[u8], message: &[u8], out: &mut Writer)
+    ensures { Puts (spec.list_text key.now few.now message.now) out.old out.new }
 {
-    let start = script::put_bytes(text, at, b"empty\n");
-    let opened = opening(Hub::empty(), key, text, start);
-    let after_opened = opened.hub;
-    let fed_few = rounds(after_opened, in_place, few, text, opened.next);
-    let after_few = fed_few.hub;
-    let judged = listing::check(after_few, 4, key, text, fed_few.next);
-    let after_judged = judged.hub;
-    let fed = rounds(after_judged, in_place, message, text, judged.next);
-    let after_fed = fed.hub;
-    let ended = ending(after_fed, key, text, fed.next);
-    ended.next
+    out.put_bytes(b"empty\n");
+    let hub = Hub::empty();
+    let mut list = Listing { hub, out };
+    opening(&mut list, key);
+    rounds::<C>(&mut list, few);
+    list.check(4, key);
+    rounds::<C>(&mut list, message);
+    ending(&mut list, key);
 }
 
-// Both lists, each under its name.
+// Both lists, each under its name, from the buffer's start on; answers the place behind them.
 fn list_both(key: &[u8], few: &[u8], message: &[u8], text: &mut [u8]) -> usize
     ensures { Wrote text.old 0 (spec.both_texts key.now few.now message.now) text.new result }
 {
-    let by_value_at = script::put_bytes(text, 0, b"by value\n");
-    let after_by_value = list(false, key, few, message, text, by_value_at);
-    let in_place_at = script::put_bytes(text, after_by_value, b"in place\n");
-    list(true, key, few, message, text, in_place_at)
+    let mut out = Writer { out: text, at: 0 };
+    out.put_bytes(b"by value\n");
+    list::<ByValue>(key, few, message, &mut out);
+    out.put_bytes(b"in place\n");
+    list::<InPlace>(key, few, message, &mut out);
+    out.at
 }
 
 const KEY: [u8; 16] = [0, 1, 2, 3, 4, 5, 6, 7, 8, 9, 10, 11, 12, 13, 14, 15];
@@ -261,10 +224,7 @@ const MESSAGE: [u8; 20] = [
 
 // The buffer is longer than the text, which has 90,378 bytes.
 fn main() {
-    let key = KEY;
-    let few = FEW;
-    let message = MESSAGE;
     let mut text = [0u8; 131072];
-    let length = list_both(&key, &few, &message, &mut text);
-    io::write_all(1, &text[..length]);
+    let length = list_both(&KEY, &FEW, &MESSAGE, &mut text);
+    io::write_all(STDOUT, &text[..length]);
 }

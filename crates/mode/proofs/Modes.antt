@@ -1,6 +1,7 @@
 -- What holds of every row of the table of modes, and the modes that numbers name. Proofs of the crates above cite these laws and do not go mode by mode;
 -- calls/proofs/Refusals.antt alone does, to have the limits once more as literals.
 -- Assumes nothing.
+use Rattle.std.specs.Prelude.{Option, Some, None}
 use mathlib.Core.Bool.{Bool, true, false, cond}
 use mathlib.Core.Logic.{◌≢◌}
 use mathlib.Core.Path.{◌≡◌, refl, sym, ap, ◌∙◌}
@@ -11,8 +12,6 @@ use borrow.Author.Tests.{ne_eqb, lt-leb}
 use lib.Dec.{leb}
 use Rattle.mode.specs.declared.Mode.{Mode}
 use Rattle.mode.specs.declared.Mode.TheVariants.{Prf, Mac, Hash, Xof, HashA, XofA}
-use Rattle.mode.specs.declared.Named.{Named}
-use Rattle.mode.specs.declared.Named.TheVariants.{Is, NoMode}
 use Rattle.mode.specs.Mode.{outer_rounds, Row, row, number_of, named, number_named, mode_number}
 
 -- ---- rows
@@ -25,7 +24,6 @@ pub record Rates (w : Row) : Type 0 where
   pub feeds-word : 8 ≤ w.feed_rate
   pub draws-word : 8 ≤ w.draw_rate
   -- a block lies in the forty bytes of the state
-  pub feeds-inside : w.feed_rate ≤ 40
   pub draws-inside : w.draw_rate ≤ 40
   -- the feed rate divides 2 ^ 64, so that a length that wraps leaves each place in a block right
   pub wraps : (n : ℕ) → n % 2 ^ 64 % w.feed_rate ≡ n % w.feed_rate
@@ -57,7 +55,7 @@ limits XofA = record { key = omega arith; drawn = λ _. omega arith; rounds = om
 -- ---- numbers of modes
 
 -- the number of a mode, with its tag length, names it
-pub named-number : (mode : Mode) → named (number_of mode) (row mode).most_drawn ≡ Is mode
+pub named-number : (mode : Mode) → named (number_of mode) (row mode).most_drawn ≡ Some mode
 unfolding named
 named-number Prf = refl
 named-number (Mac length) = refl
@@ -67,9 +65,9 @@ named-number HashA = refl
 named-number XofA = refl
 
 -- what an answer names, if it names a mode
-abbrev mode_or : Mode → Named → Mode
-mode_or other (Is mode) = mode
-mode_or other NoMode = other
+abbrev mode_or : Mode → Option Mode → Mode
+mode_or other (Some mode) = mode
+mode_or other None = other
 
 -- a mode of number 2 is the MAC, with tags as long as all that it draws
 pub is-mac : (mode : Mode) → number_of mode ≡ 2 → mode ≡ Mac (row mode).most_drawn
@@ -88,26 +86,22 @@ up_to_six P a b c d e f g (suc (suc (suc (suc (suc (suc zero)))))) h = g
 up_to_six P a b c d e f g (suc (suc (suc (suc (suc (suc (suc n))))))) h = absurd (omega arith)
 
 -- any other number names none
-pub named_none : (n length : ℕ) → n ≢ 1 → n ≢ 2 → n ≢ 3 → n ≢ 4 → n ≢ 5 → n ≢ 6 → named n length ≡ NoMode
+pub named_none : (n length : ℕ) → n ≢ 1 → n ≢ 2 → n ≢ 3 → n ≢ 4 → n ≢ 5 → n ≢ 6 → named n length ≡ None
 unfolding named
 named_none n length a b c d e f = simp (ne_eqb n 1 a, ne_eqb n 2 b, ne_eqb n 3 c, ne_eqb n 4 d, ne_eqb n 5 e, ne_eqb n 6 f)
 
-pub named-above : (n length : ℕ) → 6 < n → named n length ≡ NoMode
+pub named-above : (n length : ℕ) → 6 < n → named n length ≡ None
 named-above n length h =
     named_none n length (λ e. omega arith) (λ e. omega arith) (λ e. omega arith) (λ e. omega arith) (λ e. omega arith) (λ e. omega arith)
 
 -- what a number names has that number, or it is none of 1 to 6
-pub number-named : (n length : ℕ) → number_named (named n length) ≡ mode_number n
+pub number_by_name : (n length : ℕ) → number_named (named n length) ≡ mode_number n
 unfolding named mode_number
-number-named n length = go (dec_lt 6 n)
+number_by_name n length = go (dec_lt 6 n)
   where
     go : Dec (6 < n) → number_named (named n length) ≡ cond (leb n 6) n 0
     go (yes l) = rw (named-above n length l, lt-leb n 6 l)
     go (no l) = up_to_six (λ (n : ℕ). number_named (named n length) ≡ cond (leb n 6) n 0) refl refl refl refl refl refl refl n (omega arith)
-
--- both of what is promised of an answer that is `named n length`
-pub named-both : (n length : ℕ) (r : Named) → r ≡ named n length → (number_named r ≡ mode_number n) × (r ≡ named n length)
-named-both n length r e = (ap number_named e ∙ number-named n length, e)
 
 -- no mode has number 0
 positive : (mode : Mode) → 0 < number_of mode
@@ -119,9 +113,9 @@ positive HashA = omega arith
 positive XofA = omega arith
 
 -- the mode that a number names has that number
-pub number_is : (n length : ℕ) (mode : Mode) → named n length ≡ Is mode → number_of mode ≡ n
+pub number_is : (n length : ℕ) (mode : Mode) → named n length ≡ Some mode → number_of mode ≡ n
 unfolding mode_number
-number_is n length mode h = go (leb n 6) (ap number_named (sym h) ∙ number-named n length)
+number_is n length mode h = go (leb n 6) (ap number_named (sym h) ∙ number_by_name n length)
   where
     go : (b : Bool) → number_of mode ≡ cond b n 0 → number_of mode ≡ n
     go true e = e
@@ -135,26 +129,26 @@ unfolding named
 length_ignored n a b other = rw (ne_eqb n 2 other)
 
 -- mode 2 has the one that it is named with
-pub length-kept : (n length : ℕ) (mode : Mode) → named n length ≡ Is mode → number_of mode ≡ 2 → mode ≡ Mac length
+pub length-kept : (n length : ℕ) (mode : Mode) → named n length ≡ Some mode → number_of mode ≡ 2 → mode ≡ Mac length
 unfolding named
 length-kept n length mode h two = ap (mode_or mode) (sym h ∙ ap (λ (k : ℕ). named k length) (sym (number_is n length mode h) ∙ two))
 
 -- with another length a number names no mode still, or a mode of the same number and key length
-pub none-renamed : (n a b : ℕ) → named n a ≡ NoMode → named n b ≡ NoMode
+pub none-renamed : (n a b : ℕ) → named n a ≡ None → named n b ≡ None
 unfolding named
 none-renamed n a b h = go (ℕ_discrete n 2)
   where
-    go : Dec (n ≡ 2) → named n b ≡ NoMode
+    go : Dec (n ≡ 2) → named n b ≡ None
     go (yes two) = absurd (omega (arith, ap number_named (ap (λ (k : ℕ). named k a) (sym two) ∙ h)))
     go (no other) = length_ignored n b a other ∙ h
 
 pub record Renamed (n length : ℕ) (mode : Mode) : Type 0 where
   pub other : Mode
-  pub is : named n length ≡ Is other
+  pub is : named n length ≡ Some other
   pub number : number_of other ≡ number_of mode
   pub key : (row other).key_length ≡ (row mode).key_length
 
-pub renamed : (n a b : ℕ) (mode : Mode) → named n a ≡ Is mode → Renamed n b mode
+pub renamed : (n a b : ℕ) (mode : Mode) → named n a ≡ Some mode → Renamed n b mode
 unfolding named
 renamed n a b mode h = go (ℕ_discrete n 2)
   where

@@ -1,12 +1,12 @@
 -- A start word says again what stands in its row, as the papers have it: "Ascon PRF, MAC, and Short-Input MAC" (source document 003) joins k ∥ r ∥ 2^7 + a ∥ 0^8 ∥ t,
 -- "Additional Modes for Ascon" (source document 004) 0^8 ∥ r ∥ a ∥ a - b ∥ L, with lengths in bits. Where the output may have any length, t and L are 0.
 -- Assumes nothing.
+use Rattle.std.specs.Prelude.{Option, Some, None}
 use mathlib.Core.List.{[], ◌∷◌, map}
 use mathlib.Core.Path.{◌≡◌, refl}
 use Prim.Native.Nat.{ℕ, ◌+◌, ◌-◌, ◌*◌, ◌^◌}
+use Rattle.mode.specs.declared.Mode.{Mode}
 use Rattle.mode.specs.declared.Mode.TheVariants.{Prf, Mac, Hash, Xof, HashA, XofA}
-use Rattle.mode.specs.declared.Named.{Named}
-use Rattle.mode.specs.declared.Named.TheVariants.{Is, NoMode}
 use Rattle.mode.specs.Mode.{outer_rounds, Row, row, named}
 
 -- the rounds as the third byte has them, and the length of the output
@@ -23,9 +23,9 @@ pub start-words :
 start-words = (refl, (λ length. refl), refl, refl, refl, refl)
 
 -- the start word of the mode that is named, or 0
-abbrev start_named : Named → ℕ
-start_named (Is mode) = (row mode).start_word
-start_named NoMode = 0
+abbrev start_named : Option Mode → ℕ
+start_named (Some mode) = (row mode).start_word
+start_named None = 0
 
 -- by the numbers, 0 to 7, with a tag length of 16: in all but start word and rounds modes 3 and 5 are alike, and 4 and 6
 pub numbered-start-words : map (λ (n : ℕ). start_named (named n 16)) (0 ∷ 1 ∷ 2 ∷ 3 ∷ 4 ∷ 5 ∷ 6 ∷ 7 ∷ [])

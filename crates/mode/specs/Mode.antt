@@ -2,11 +2,9 @@
 -- ASCON-HASHA and ASCON-XOFA. Row 2, the MAC's, is computed from the length of its tags in bytes (request K2); document 01's is the one for 16.
 -- In the table of start words of "Additional Modes for Ascon" (source document 004) a digit of XOFA's is missing.
 -- Assumes nothing.
-use Rattle.std.specs.Prelude.{Bool, true, false, cond, ℕ, ◌+◌, ◌*◌, eqb, leb}
+use Rattle.std.specs.Prelude.{Bool, true, false, cond, Option, Some, None, ℕ, ◌+◌, ◌*◌, eqb, leb}
 use Rattle.mode.specs.declared.Mode.{Mode}
 use Rattle.mode.specs.declared.Mode.TheVariants.{Prf, Mac, Hash, Xof, HashA, XofA}
-use Rattle.mode.specs.declared.Named.{Named}
-use Rattle.mode.specs.declared.Named.TheVariants.{Is, NoMode}
 
 -- the rounds of the first run and of the one after the last message block, in every mode
 abbrev pub outer_rounds : ℕ
@@ -45,20 +43,20 @@ number_of HashA = 5
 number_of XofA = 6
 
 -- the mode that a number and a tag length name: a number that is not 1 to 6 names none, and only mode 2 has a tag length
-unfoldable pub named : ℕ → ℕ → Named
+unfoldable pub named : ℕ → ℕ → Option Mode
 named n length =
-    cond (eqb n 1) (Is Prf)
-    (cond (eqb n 2) (Is (Mac length))
-    (cond (eqb n 3) (Is Hash)
-    (cond (eqb n 4) (Is Xof)
-    (cond (eqb n 5) (Is HashA)
-    (cond (eqb n 6) (Is XofA) NoMode)))))
+    cond (eqb n 1) (Some Prf)
+    (cond (eqb n 2) (Some (Mac length))
+    (cond (eqb n 3) (Some Hash)
+    (cond (eqb n 4) (Some Xof)
+    (cond (eqb n 5) (Some HashA)
+    (cond (eqb n 6) (Some XofA) None)))))
 
 -- a number that is a mode's; 0 for any other
 unfoldable pub mode_number : ℕ → ℕ
 mode_number n = cond (leb n 6) n 0
 
 -- the number that such an answer stands for: the mode's, or 0
-abbrev pub number_named : Named → ℕ
-number_named (Is mode) = number_of mode
-number_named NoMode = 0
+abbrev pub number_named : Option Mode → ℕ
+number_named (Some mode) = number_of mode
+number_named None = 0

@@ -1,11 +1,11 @@
-// The modes, with the table of document 01's "Four modes" and request K1's two rows as associated constants. A column of the table is a method; the MAC's start
-// word and limit are computed from the length of its tags (request K2).
+// The modes, with the table of document 01's "Four modes" and request K1's two rows as associated constants. Each column of the table is a method, as one method for
+// all would have its callers name the column as well; the MAC's start word and limit are computed from the length of its tags (request K2).
 #![tactic(auto)]
 
 ghost use Rattle.std.specs.Prelude.{◌≡◌};
 ghost use Rattle.mode.specs.Mode.{number_of, named, number_named, mode_number, row};
 
-#[derive(Clone, Copy)]
+#[derive(Clone, Copy, Debug, PartialEq, Eq)]
 pub enum Mode {
     Prf,
     // The length of its tags, in bytes. The hub opens it with 8 to 16.
@@ -14,13 +14,6 @@ pub enum Mode {
     Xof,
     HashA,
     XofA,
-}
-
-// What a number names: a mode, or none.
-#[derive(Clone, Copy)]
-pub enum Named {
-    Is(Mode),
-    NoMode,
 }
 
 impl Mode {
@@ -59,7 +52,7 @@ impl Mode {
 
     pub const LIGHTER_INNER_ROUNDS: u64 = 8;
 
-    // The number of the mode in document 01 and request K1.
+    // The number of the mode in document 01 and request K1. A method, since `u32::from` would not say which number.
     pub fn number(self) -> u32
         ensures { result ≡ number_of self }
     {
@@ -73,19 +66,21 @@ impl Mode {
         }
     }
 
-    // The mode that a number and a tag length name. A number that is not 1 to 6 names none; only mode 2 has a tag length.
-    pub fn of_number(number: u32, length: u8) -> Named
+    // The mode that a number and a tag length name. A number that is not 1 to 6 names none; only mode 2 has a tag length. Two
+    // values name it, so that this is no `TryFrom`.
+    #[tactic(auto, unfolding(crate::specs::Mode::named, crate::specs::Mode::mode_number))]
+    pub fn of_number(number: u32, length: u8) -> Option<Mode>
         ensures number { number_named result ≡ mode_number number }
         ensures named { result ≡ named number length }
     {
         match number {
-            1 => Named::Is(Mode::Prf),
-            2 => Named::Is(Mode::Mac(length)),
-            3 => Named::Is(Mode::Hash),
-            4 => Named::Is(Mode::Xof),
-            5 => Named::Is(Mode::HashA),
-            6 => Named::Is(Mode::XofA),
-            _ => Named::NoMode,
+            1 => Some(Mode::Prf),
+            2 => Some(Mode::Mac(length)),
+            3 => Some(Mode::Hash),
+            4 => Some(Mode::Xof),
+            5 => Some(Mode::HashA),
+            6 => Some(Mode::XofA),
+            _ => None,
         }
     }
 
@@ -94,12 +89,8 @@ impl Mode {
         ensures { result ≡ (row self).feed_rate }
     {
         match self {
-            Mode::Prf => Mode::KEYED_FEED_RATE,
-            Mode::Mac(_) => Mode::KEYED_FEED_RATE,
-            Mode::Hash => Mode::UNKEYED_RATE,
-            Mode::Xof => Mode::UNKEYED_RATE,
-            Mode::HashA => Mode::UNKEYED_RATE,
-            Mode::XofA => Mode::UNKEYED_RATE,
+            Mode::Prf | Mode::Mac(_) => Mode::KEYED_FEED_RATE,
+            Mode::Hash | Mode::Xof | Mode::HashA | Mode::XofA => Mode::UNKEYED_RATE,
         }
     }
 
@@ -108,12 +99,8 @@ impl Mode {
         ensures { result ≡ (row self).draw_rate }
     {
         match self {
-            Mode::Prf => Mode::KEYED_DRAW_RATE,
-            Mode::Mac(_) => Mode::KEYED_DRAW_RATE,
-            Mode::Hash => Mode::UNKEYED_RATE,
-            Mode::Xof => Mode::UNKEYED_RATE,
-            Mode::HashA => Mode::UNKEYED_RATE,
-            Mode::XofA => Mode::UNKEYED_RATE,
+            Mode::Prf | Mode::Mac(_) => Mode::KEYED_DRAW_RATE,
+            Mode::Hash | Mode::Xof | Mode::HashA | Mode::XofA => Mode::UNKEYED_RATE,
         }
     }
 
@@ -123,7 +110,7 @@ impl Mode {
     {
         match self {
             Mode::Prf => Mode::PRF_START,
-            Mode::Mac(length) => Mode::MAC_START + 8 * length as u64,
+            Mode::Mac(length) => Mode::MAC_START + 8 * u64::from(length),
             Mode::Hash => Mode::HASH_START,
             Mode::Xof => Mode::XOF_START,
             Mode::HashA => Mode::HASHA_START,
@@ -136,12 +123,8 @@ impl Mode {
         ensures { result ≡ (row self).key_length }
     {
         match self {
-            Mode::Prf => Mode::KEY_LENGTH,
-            Mode::Mac(_) => Mode::KEY_LENGTH,
-            Mode::Hash => Mode::NO_KEY,
-            Mode::Xof => Mode::NO_KEY,
-            Mode::HashA => Mode::NO_KEY,
-            Mode::XofA => Mode::NO_KEY,
+            Mode::Prf | Mode::Mac(_) => Mode::KEY_LENGTH,
+            Mode::Hash | Mode::Xof | Mode::HashA | Mode::XofA => Mode::NO_KEY,
         }
     }
 
@@ -150,12 +133,9 @@ impl Mode {
         ensures { result ≡ (row self).most_drawn }
     {
         match self {
-            Mode::Prf => Mode::LONG_OUTPUT,
-            Mode::Mac(length) => length as usize,
-            Mode::Hash => Mode::HASH_OUTPUT,
-            Mode::Xof => Mode::LONG_OUTPUT,
-            Mode::HashA => Mode::HASH_OUTPUT,
-            Mode::XofA => Mode::LONG_OUTPUT,
+            Mode::Prf | Mode::Xof | Mode::XofA => Mode::LONG_OUTPUT,
+            Mode::Mac(length) => usize::from(length),
+            Mode::Hash | Mode::HashA => Mode::HASH_OUTPUT,
         }
     }
 
@@ -164,12 +144,8 @@ impl Mode {
         ensures { result ≡ (row self).flips }
     {
         match self {
-            Mode::Prf => true,
-            Mode::Mac(_) => true,
-            Mode::Hash => false,
-            Mode::Xof => false,
-            Mode::HashA => false,
-            Mode::XofA => false,
+            Mode::Prf | Mode::Mac(_) => true,
+            Mode::Hash | Mode::Xof | Mode::HashA | Mode::XofA => false,
         }
     }
 
@@ -178,12 +154,8 @@ impl Mode {
         ensures { result ≡ (row self).inner_rounds }
     {
         match self {
-            Mode::Prf => Mode::INNER_ROUNDS,
-            Mode::Mac(_) => Mode::INNER_ROUNDS,
-            Mode::Hash => Mode::INNER_ROUNDS,
-            Mode::Xof => Mode::INNER_ROUNDS,
-            Mode::HashA => Mode::LIGHTER_INNER_ROUNDS,
-            Mode::XofA => Mode::LIGHTER_INNER_ROUNDS,
+            Mode::Prf | Mode::Mac(_) | Mode::Hash | Mode::Xof => Mode::INNER_ROUNDS,
+            Mode::HashA | Mode::XofA => Mode::LIGHTER_INNER_ROUNDS,
         }
     }
 }

@@ -1,18 +1,19 @@
 // The Ascon permutation: a state of five 64-bit words that goes by value through twelve rounds, or through the last n of them.
 #![tactic(auto)]
 
-ghost use Rattle.std.specs.Prelude.{◌≡◌, ◌-◌, ◌<◌};
+ghost use Rattle.std.specs.Prelude.{◌≡◌, ◌<◌};
+ghost use Rattle.checks.specs.Refusals.{answer_number};
 ghost use Rattle.word.specs.Word.{rotr};
 ghost use Rattle.permutation.specs.Permutation as spec;
 ghost use Rattle.permutation.specs.Row.{row_answer, row_after};
 
+use checks::Refusal;
+
 // How many rounds there are.
 pub const ROUNDS: u64 = 12;
 
-// Document 01's refusal 7: the row is not of five words.
-pub const NOT_FIVE_WORDS: u32 = 7;
-
-// x rotated right by n places, 0 to 63. By 0 places the left shift would be by 64, which is undefined: it is by 0 instead.
+// x rotated right by n places, 0 to 63, by shifts, as document 01 asks ("What each place should look like"). By 0 places the left shift would be by 64, which is
+// undefined: it is by 0 instead.
 fn rotate(x: u64, n: u64) -> u64
     requires { n < 64 }
     ensures { result ≡ rotr 64 n x }
@@ -21,6 +22,7 @@ fn rotate(x: u64, n: u64) -> u64
 }
 
 // x xored with two copies of itself, rotated right by m and by n places.
+#[tactic(auto, unfolding(crate::specs::Permutation::mix))]
 fn mix(x: u64, m: u64, n: u64) -> u64
     requires { (m < 64) × (n < 64) }
     ensures { result ≡ spec.mix m n x }
@@ -29,6 +31,7 @@ fn mix(x: u64, m: u64, n: u64) -> u64
 }
 
 // The linear layer.
+#[tactic(auto, unfolding(crate::specs::Permutation::diffuse))]
 fn diffuse(s: [u64; 5]) -> [u64; 5]
     ensures { result ≡ spec.diffuse s }
 {
@@ -83,6 +86,7 @@ fn round_constant(i: u64) -> u64
 }
 
 // Round i of the twelve.
+#[tactic(auto, unfolding(crate::specs::Permutation::round, crate::specs::Permutation::add_constant))]
 fn round(s: [u64; 5], i: u64) -> [u64; 5]
     requires { i < 12 }
     ensures { result ≡ spec.round i s }
@@ -91,41 +95,21 @@ fn round(s: [u64; 5], i: u64) -> [u64; 5]
     diffuse(substitute([s[0], s[1], s[2] ^ c, s[3], s[4]]))
 }
 
-// The number of the first of the last n rounds: 12 where n is 0, so that there is none, and 0 where n is twelve or more.
-fn first_round(n: u64) -> u64
-    ensures { result ≡ 12 - n }
-{
-    if n < ROUNDS {
-        return ROUNDS - n;
-    }
-    0
-}
-
 // n rounds, the last n of the twelve. More than twelve means all twelve.
 pub fn permute(s: [u64; 5], n: u64) -> [u64; 5]
     ensures { result ≡ spec.permute n s }
 {
-    let mut t = s;
-    for i in first_round(n)..ROUNDS {
-        let u = round(t, i);
-        t = u;
-    }
-    t
+    (ROUNDS.saturating_sub(n)..ROUNDS).fold(s, round)
 }
 
 // All twelve rounds over a lent row. A row that is not of five words is refused and stays as it is.
-pub fn permute_row(row: &mut [u64]) -> u32
-    ensures answer { result ≡ row_answer row.old }
+pub fn permute_row(row: &mut [u64]) -> Result<(), Refusal>
+    ensures answer { answer_number result ≡ row_answer row.old }
     ensures after { row.new ≡ row_after (spec.permute 12) row.old }
 {
-    if row.len() != 5 {
-        return NOT_FIVE_WORDS;
-    }
-    let t = permute([row[0], row[1], row[2], row[3], row[4]], ROUNDS);
-    row[0] = t[0];
-    row[1] = t[1];
-    row[2] = t[2];
-    row[3] = t[3];
-    row[4] = t[4];
-    0
+    let [a, b, c, d, e] = *row else {
+        return Err(Refusal::RowLength);
+    };
+    row.copy_from_slice(&permute([a, b, c, d, e], ROUNDS));
+    Ok(())
 }

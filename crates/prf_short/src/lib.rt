@@ -1,10 +1,13 @@
-// Document 01's short function, ASCON-PRFSHORT of "Ascon PRF, MAC, and Short-Input MAC" (source document 003): an output of up to sixteen bytes for a message of up to sixteen,
-// by one permutation.
+// Document 01's short function, ASCON-PRFSHORT of "Ascon PRF, MAC, and Short-Input MAC" (source document 003): an output of up to sixteen bytes for a message of
+// up to sixteen, by one permutation.
 #![tactic(auto)]
 
 ghost use Rattle.std.specs.Prelude.{◌≡◌, ◌≤◌, length};
+ghost use Rattle.checks.specs.Refusals.{answer_number};
 ghost use Rattle.prf_short.specs.Short.{start_word, prf_short};
-ghost use Rattle.prf_short.specs.Call.{wrong_output, short_answer, short_after};
+ghost use Rattle.prf_short.specs.Call.{short_answer, short_after};
+
+use checks::Refusal;
 
 const KEY_LENGTH: usize = 16;
 
@@ -16,6 +19,7 @@ const LONGEST_OUTPUT: usize = 16;
 const START: u64 = 0x8000_4c00_0000_0000;
 
 // The start word for a message of m bytes and an output of t: both in bits, in its second and its fourth byte.
+#[tactic(auto, unfolding(word::specs::Bytes::from_bytes, crate::specs::Short::start_value))]
 fn start_word(m: usize, t: usize) -> u64
     requires { (m ≤ 16) × (t ≤ 16) }
     ensures { result ≡ start_word m t }
@@ -38,33 +42,21 @@ fn output(key: &[u8], message: &[u8], out: &mut [u8])
     state::copy_bytes(masked, (40 - out.len()) as u32, out);
 }
 
-// Whether the length of an output is not 1 to 16, or its buffer has another length.
-fn wrong_output(lent: usize, length: usize) -> bool
-    ensures { result ≡ wrong_output lent length }
-{
-    if length < 1 {
-        return true;
-    }
-    if LONGEST_OUTPUT < length {
-        return true;
-    }
-    lent != length
-}
-
 // Checks 2, 5, 6. The buffer gets an output of its own length; it stays as it is where the call is refused.
-pub fn prf_short(key: &[u8], message: &[u8], out: &mut [u8], length: usize) -> u32
-    ensures answer { result ≡ short_answer key.now message.now out.old length }
+#[tactic(auto, unfolding(crate::specs::Call::short_answer, crate::specs::Call::short_after, crate::specs::Call::short_checks))]
+pub fn prf_short(key: &[u8], message: &[u8], out: &mut [u8], length: usize) -> Result<(), Refusal>
+    ensures answer { answer_number result ≡ short_answer key.now message.now out.old length }
     ensures after { out.new ≡ short_after key.now message.now out.old length }
 {
     if key.len() != KEY_LENGTH {
-        return 2;
+        return Err(Refusal::KeyLength);
     }
     if LONGEST_MESSAGE < message.len() {
-        return 5;
+        return Err(Refusal::MessageLength);
     }
-    if wrong_output(out.len(), length) {
-        return 6;
+    if !matches!(length, 1..=LONGEST_OUTPUT) || out.len() != length {
+        return Err(Refusal::OutputLength);
     }
     output(key, message, out);
-    0
+    Ok(())
 }

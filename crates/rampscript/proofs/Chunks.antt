@@ -1,91 +1,69 @@
 -- A chunk is answered part by part, each filling an output buffer.
 -- Assumes nothing.
 use mathlib.Core.Path.{◌≡◌, refl, sym, ap, ◌∙◌}
-use mathlib.Core.Bool.{true, false, false≢true}
 use mathlib.Core.List.{List, [], ◌++◌, append_assoc}
 use Prim.Native.Nat.{ℕ, ◌+◌, ◌-◌, ◌≤◌, ◌<◌}
 use native.Mathlib.Omega.{arith}
-use lib.ListN.{length, take, drop, length-append, length-drop, take-append-drop, drop_of_length-le}
-use lib.Seq.{take_at}
+use lib.ListN.{length, drop, length-append, length-drop}
+use lib.Seq.{drop_at}
+use Rattle.std.specs.Prelude.{◌≢◌, Err, Ok}
 use Rattle.checks.specs.Buffers.{written}
-use Rattle.interpreter.specs.declared.Session.{Session}
+use Rattle.interpreter.specs.declared.Reader.{Reader}
 use Rattle.interpreter.specs.declared.Progress.{Progress}
-use Rattle.interpreter.specs.Session.{Reader, reader_of, Consumed, consumed, Filled, output_size, filled_from, progress_of}
+use Rattle.interpreter.specs.Session.{Consumed, consumed, Filled, output_size, filled_from, progress_of}
 use Rattle.interpreter.proofs.Consuming.{consumed_append}
 use Rattle.interpreter.proofs.Filling.{filled-parts, filled-ahead}
-use Rattle.rampscript.specs.Program.{Answering}
+use Rattle.rampscript.specs.declared.Failure.TheVariants.{Read}
+use Rattle.rampscript.specs.Program.{Outcome, Answering}
 
 -- what was printed stands in the buffer
 pub covers : (out text : List ℕ) (size : ℕ) (last : List ℕ) → size ≡ length text → last ≡ written out 0 text → size ≤ length last
 unfolding written
 covers out text size last e f = omega (arith, e, ap length f, length-append text (drop (0 + length text) out))
 
--- where the loop over a chunk stands: the bytes before this place were consumed
-pub record Answers (r : Reader) (chunk : List ℕ) (at : ℕ) (s : Session) (line : List ℕ) : Type 0 where
-  pub inside : at ≤ length chunk
-  pub reader : reader_of s line ≡ (consumed r (take at chunk)).reader
+-- where the loop over a chunk stands: the bytes before the rest were consumed
+pub record Answers (r : Reader) (chunk rest : List ℕ) (q : Reader) : Type 0 where
+  pub taken : List ℕ
+  pub split : chunk ≡ taken ++ rest
+  pub reader : q ≡ (consumed r taken).reader
 
-pub answers-first : (s : Session) (line chunk : List ℕ) → Answers (reader_of s line) chunk 0 s line
+pub answers-first : (r : Reader) (chunk : List ℕ) → Answers r chunk chunk r
 unfolding consumed
-answers-first s line chunk = record { inside = omega arith; reader = refl }
+answers-first r chunk = record { taken = []; split = refl; reader = refl }
 
-module _ (r : Reader) (chunk : List ℕ) (at : ℕ) (s : Session) (line : List ℕ) (more : at < length chunk) (p : Progress) (line' : List ℕ)
-    (progress : p ≡ progress_of chunk (filled_from s line chunk at)) (buffer : line' ≡ (filled_from s line chunk at).reader.line) where
+module _ (q : Reader) (rest : List ℕ) (p : Progress) (q' : Reader)
+    (progress : p ≡ progress_of rest (filled_from q rest)) (reader : q' ≡ (filled_from q rest).reader) where
   abbrev part : Filled
-  part = filled_from s line chunk at
+  part = filled_from q rest
 
-  next : p.next ≡ length chunk - length part.left
-  next = ap (λ (x : Progress). x.next) progress
+  taken : p.taken ≡ length rest - length part.left
+  taken = ap (λ (x : Progress). x.taken) progress
 
-  pub answers-ahead : at < p.next
+  pub answers-ahead : 0 < length rest → length (drop p.taken rest) < length rest
   unfolding filled_from
-  answers-ahead =
-      omega (
-        arith,
-        next,
-        length-drop at chunk,
-        filled-ahead output_size (reader_of s line) [] (drop at chunk) (omega arith) (omega (arith, length-drop at chunk)),
-      )
+  answers-ahead more = omega (arith, taken, length-drop p.taken rest, filled-ahead output_size q [] rest (omega arith) (omega arith))
 
-  pub answers_next : Answers r chunk at s line → Answers r chunk p.next p.session line'
+  pub answers_next : (r : Reader) (chunk : List ℕ) → Answers r chunk rest q → Answers r chunk (drop p.taken rest) q'
   unfolding filled_from
-  answers_next a =
-      let t = filled-parts output_size (reader_of s line) [] (drop at chunk) in
-      let whole : chunk ≡ (take at chunk ++ t.taken) ++ part.left =
-      sym (take-append-drop at chunk) ∙ ap (λ (l : List ℕ). take at chunk ++ l) t.split ∙ sym (append_assoc (take at chunk) t.taken part.left) in
-      let size : length (take at chunk ++ t.taken) ≡ p.next =
-      omega (arith, next, ap length whole, length-append (take at chunk ++ t.taken) part.left) in
-      let front : take p.next chunk ≡ take at chunk ++ t.taken = ap (take p.next) whole ∙ take_at (take at chunk ++ t.taken) part.left p.next size in
-      let now : reader_of p.session line' ≡ part.reader =
-      ap (λ (x : Progress). reader_of x.session line') progress ∙ ap (reader_of part.reader.session) buffer in
+  answers_next r chunk a =
+      let t = filled-parts output_size q [] rest in
+      let size : length t.taken ≡ p.taken = omega (arith, taken, ap length t.split, length-append t.taken part.left) in
+      let left : drop p.taken rest ≡ part.left = ap (drop p.taken) t.split ∙ drop_at t.taken part.left p.taken size in
       record {
-        inside = omega (arith, next);
+        taken = a.taken ++ t.taken;
+        split =
+            a.split
+            ∙ ap (λ (l : List ℕ). a.taken ++ l) t.split
+            ∙ sym (append_assoc a.taken t.taken part.left)
+            ∙ ap (λ (l : List ℕ). (a.taken ++ t.taken) ++ l) (sym left);
         reader =
-            now
+            reader
             ∙ t.reader
-            ∙ ap (λ (q : Reader). (consumed q t.taken).reader) a.reader
-            ∙ ap (λ (f : Consumed). f.reader) (sym (consumed_append r (take at chunk) t.taken))
-            ∙ ap (λ (l : List ℕ). (consumed r l).reader) (sym front);
+            ∙ ap (λ (x : Reader). (consumed x t.taken).reader) a.reader
+            ∙ ap (λ (f : Consumed). f.reader) (sym (consumed_append r a.taken t.taken));
       }
 
-module _ (r : Reader) (chunk : List ℕ) (at : ℕ) (s : Session) (line : List ℕ) (a : Answers r chunk at s line) where
-  pub answers-done : length chunk ≤ at → Answering r chunk (record { session = s; wrote = true }) line
-  answers-done h =
-      record {
-        taken = take at chunk;
-        left = drop at chunk;
-        split = sym (take-append-drop at chunk);
-        reader = a.reader;
-        all = λ e. drop_of_length-le chunk {i = at} h;
-      }
-
+module _ (r : Reader) (chunk rest : List ℕ) (q : Reader) (a : Answers r chunk rest q) where
   -- a write failed
-  pub answers-failed : Answering r chunk (record { session = s; wrote = false }) line
-  answers-failed =
-      record {
-        taken = take at chunk;
-        left = drop at chunk;
-        split = sym (take-append-drop at chunk);
-        reader = a.reader;
-        all = λ e. absurd (false≢true e);
-      }
+  pub answers-failed : (e : Outcome) → (e ≡ Ok tt → ⊥) → e ≢ Err Read → Answering r chunk e q
+  answers-failed e n u = record { taken = a.taken; left = rest; split = a.split; reader = a.reader; all = λ f. absurd (n f); unread = u }

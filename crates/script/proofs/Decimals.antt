@@ -10,7 +10,8 @@ use native.Mathlib.Decide.{dec_le, dec_lt}
 use lib.Dec.{eqb, leb}
 use lib.ListN.{length}
 use borrow.Author.Tests.{lt-ltb, le-ltb, ne_eqb, leb-true, eqb-false, not-true}
-use Rattle.script.specs.Number.{found, most_number, is_digit, all_digits, plain_start, value_from, number_of, spelled, decimal}
+use Rattle.std.specs.Prelude.{Some}
+use Rattle.script.specs.Number.{most_number, is_digit, all_digits, plain_start, value_from, number_of, spelled, decimal}
 use Rattle.script.proofs.Texts.{and_left, and_right}
 use Rattle.script.proofs.Numbers.{is_digit_lem, below_tenth, decimal-small, a-number, value-least}
 
@@ -82,10 +83,10 @@ decimal-value : (n : ℕ) → n < 10 ^ 20 → value_from 0 (decimal n) ≡ n
 unfolding decimal value_from
 decimal-value n h = spelled-value 20 n [] h
 
-pub decimal-read : (n : ℕ) → n ≤ most_number → number_of (decimal n) ≡ found n
+pub decimal-read : (n : ℕ) → n ≤ most_number → number_of (decimal n) ≡ Some n
 decimal-read n h =
     let e : value_from 0 (decimal n) ≡ n = decimal-value n (omega arith) in
-    a-number (decimal n) (decimal-plain n (omega arith)) (decimal_digits n) (omega arith) ∙ ap found e
+    a-number (decimal n) (decimal-plain n (omega arith)) (decimal_digits n) (omega arith) ∙ ap Some e
 
 spelled-long : (k n : ℕ) (r : List ℕ) → length (spelled k n r) ≤ k + length r
 unfolding spelled

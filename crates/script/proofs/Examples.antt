@@ -8,50 +8,51 @@ use Rattle.checks.specs.Equality.{same}
 use Rattle.script.specs.declared.line.Verb.TheVariants.{Open, Feed, Draw, Check, Close, Sum}
 use Rattle.script.specs.declared.answer.Word.TheVariants.{Ok, Pass, Fail, No, Stop}
 use Rattle.script.specs.Text.{text, before, after}
-use Rattle.script.specs.Number.{found, malformed, is_digit, all_digits, plain_start, value_from, is_number, number_of, spelled, decimal}
+use Rattle.std.specs.Prelude.{Some, None}
+use Rattle.script.specs.Number.{is_digit, all_digits, plain_start, value_from, is_number, number_of, spelled, decimal}
 use Rattle.script.specs.Hex.{nibble, digit_of, hex_pairs, decoded, hex_of, bytes_text}
 use Rattle.script.specs.Line.{bytes, count, verb_of, is_dash, is_hex, bytes_of, no_bytes_of, count_value, is_count, count_of, field_of, fields, parse}
 use Rattle.script.specs.Answer.{answer_line}
 use Rattle.script.specs.Input.{lines, piece}
 
 pub well_formed :
-    (parse (text "feed 1 0a1f") ≡ found (record { verb = Feed; number = 1; field = bytes (0x0a ∷ 0x1f ∷ []) }))
-    × (parse (text "open 0 -") ≡ found (record { verb = Open; number = 0; field = bytes [] }))
-    × (parse (text "check 12 00ff") ≡ found (record { verb = Check; number = 12; field = bytes (0 ∷ 255 ∷ []) }))
-    × (parse (text "close 3 -") ≡ found (record { verb = Close; number = 3; field = bytes [] }))
-    × (parse (text "sum 0 -") ≡ found (record { verb = Sum; number = 0; field = bytes [] }))
-    × (parse (text "draw 7 0400") ≡ found (record { verb = Draw; number = 7; field = count 1024 }))
-    × (parse (text "close 4294967295 -") ≡ found (record { verb = Close; number = 4294967295; field = bytes [] }))
+    (parse (text "feed 1 0a1f") ≡ Some (record { verb = Feed; number = 1; field = bytes (0x0a ∷ 0x1f ∷ []) }))
+    × (parse (text "open 0 -") ≡ Some (record { verb = Open; number = 0; field = bytes [] }))
+    × (parse (text "check 12 00ff") ≡ Some (record { verb = Check; number = 12; field = bytes (0 ∷ 255 ∷ []) }))
+    × (parse (text "close 3 -") ≡ Some (record { verb = Close; number = 3; field = bytes [] }))
+    × (parse (text "sum 0 -") ≡ Some (record { verb = Sum; number = 0; field = bytes [] }))
+    × (parse (text "draw 7 0400") ≡ Some (record { verb = Draw; number = 7; field = count 1024 }))
+    × (parse (text "close 4294967295 -") ≡ Some (record { verb = Close; number = 4294967295; field = bytes [] }))
 unfolding parse fields field_of count_of is_count count_value no_bytes_of bytes_of is_hex is_dash verb_of same before after is_digit all_digits plain_start value_from is_number number_of nibble hex_pairs decoded
 well_formed = (refl, refl, refl, refl, refl, refl, refl)
 
 pub ill_formed :
     -- past a limit
-    (parse (text "draw 7 0401") ≡ malformed)
-    × (parse (text "close 4294967296 -") ≡ malformed)
+    (parse (text "draw 7 0401") ≡ None)
+    × (parse (text "close 4294967296 -") ≡ None)
     -- a leading zero, an upper-case digit, a byte just before and just after the digits, half a pair
-    × (parse (text "feed 01 09") ≡ malformed)
-    × (parse (text "feed 1 0A") ≡ malformed)
-    × (parse (text "feed 1 0/") ≡ malformed)
-    × (parse (text "feed 1 0g") ≡ malformed)
-    × (parse (text "feed 1 0a1") ≡ malformed)
+    × (parse (text "feed 01 09") ≡ None)
+    × (parse (text "feed 1 0A") ≡ None)
+    × (parse (text "feed 1 0/") ≡ None)
+    × (parse (text "feed 1 0g") ≡ None)
+    × (parse (text "feed 1 0a1") ≡ None)
     -- a field too few, one too many, an empty one
-    × (parse (text "feed 1") ≡ malformed)
-    × (parse (text "feed 1 09 -") ≡ malformed)
-    × (parse (text "feed 1  09") ≡ malformed)
-    × (parse (text "feed 1 09 ") ≡ malformed)
-    × (parse (text " feed 1 09") ≡ malformed)
-    × (parse (text "") ≡ malformed)
+    × (parse (text "feed 1") ≡ None)
+    × (parse (text "feed 1 09 -") ≡ None)
+    × (parse (text "feed 1  09") ≡ None)
+    × (parse (text "feed 1 09 ") ≡ None)
+    × (parse (text " feed 1 09") ≡ None)
+    × (parse (text "") ≡ None)
     -- what a call does not take
-    × (parse (text "sum 1 -") ≡ malformed)
-    × (parse (text "close 3 00") ≡ malformed)
-    × (parse (text "draw 7 -") ≡ malformed)
-    × (parse (text "draw 7 04") ≡ malformed)
-    × (parse (text "Feed 1 09") ≡ malformed)
+    × (parse (text "sum 1 -") ≡ None)
+    × (parse (text "close 3 00") ≡ None)
+    × (parse (text "draw 7 -") ≡ None)
+    × (parse (text "draw 7 04") ≡ None)
+    × (parse (text "Feed 1 09") ≡ None)
     -- a carriage return, a tab for a space, a byte that is no character
-    × (parse (text "sum 0 -" ++ (0x0d ∷ [])) ≡ malformed)
-    × (parse (text "sum" ++ (0x09 ∷ text "0 -")) ≡ malformed)
-    × (parse (text "feed 1 0" ++ (0xe1 ∷ [])) ≡ malformed)
+    × (parse (text "sum 0 -" ++ (0x0d ∷ [])) ≡ None)
+    × (parse (text "sum" ++ (0x09 ∷ text "0 -")) ≡ None)
+    × (parse (text "feed 1 0" ++ (0xe1 ∷ [])) ≡ None)
 unfolding parse fields field_of count_of is_count count_value no_bytes_of bytes_of is_hex is_dash verb_of same before after is_digit all_digits plain_start value_from is_number number_of nibble hex_pairs decoded
 ill_formed = (refl, refl, refl, refl, refl, refl, refl, refl, refl, refl, refl, refl, refl, refl, refl, refl, refl, refl, refl, refl, refl)
 
@@ -73,9 +74,9 @@ pub cut :
     (lines (text "") ≡ [])
     × (lines (text "sum 0 -\n\nsum") ≡ text "sum 0 -" ∷ [] ∷ text "sum" ∷ [])
     × (lines (text "sum 0 -\n") ≡ text "sum 0 -" ∷ [])
-    × (piece (text "sum 0 -\nopen") 4 9 ≡ text "0 -")
-    × (piece (text "sum 0 -\nopen") 4 2 ≡ text "0 ")
-    × (piece (text "sum 0 -\nopen") 8 9 ≡ text "open")
-    × (piece (text "sum") 4 9 ≡ [])
+    × (piece (text "0 -\nopen") 9 ≡ text "0 -")
+    × (piece (text "0 -\nopen") 2 ≡ text "0 ")
+    × (piece (text "open") 9 ≡ text "open")
+    × (piece [] 9 ≡ [])
 unfolding lines piece before
 cut = (refl, refl, refl, refl, refl, refl, refl)

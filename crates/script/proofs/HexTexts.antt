@@ -3,13 +3,14 @@
 use mathlib.Core.Path.{◌≡◌, refl, sym, ap, ◌∙◌}
 use mathlib.Core.Bool.{Bool, true, false, ◌&&◌, false≢true}
 use mathlib.Core.List.{List, [], ◌∷◌, ◌++◌, append_assoc}
-use Prim.Native.Nat.{ℕ, suc, ◌+◌, ◌-◌, ◌*◌, ◌/◌, ◌%◌, ◌≤◌, ◌<◌}
+use Prim.Native.Nat.{ℕ, zero, suc, ◌+◌, ◌-◌, ◌*◌, ◌/◌, ◌%◌, ◌≤◌, ◌<◌}
 use native.Mathlib.Numerals.{add-one, add-two}
 use native.Mathlib.Omega.{arith}
 use native.Mathlib.Decide.{dec_le}
 use lib.Dec.{eqb, ltb}
 use lib.ListN.{length, get_or, set, take, drop, drop_of_length-le, length-drop}
-use lib.Seq.{drop-cons, take-suc, sets}
+use lib.Seq.{drop-cons, drop-drop, take-suc, take_all, sets, get_or-take, get_or-drop}
+use Rattle.std.specs.Simd.{first_chunks}
 use Rattle.script.specs.Hex.{nibble, digit_of, hex_pairs, decoded, hex_of}
 use Rattle.script.proofs.Texts.{and-false}
 use Rattle.script.proofs.HexDigits.{high_digit, low_digit, other-pairs}
@@ -46,13 +47,16 @@ digits_end s i t h = rw (drop_of_length-le s h) (and-true t)
     and-true true = refl
     and-true false = refl
 
--- a digit changes nothing
-pub digit_good : (s : List ℕ) (i : ℕ) (t : Bool) → i < length s → ltb (nibble (get_or s i 0)) 16 ≡ true → t && all_hex (drop (i + 1) s) ≡ t && all_hex (drop i s)
-digit_good s i t h e = rw (digits_next s i h, e)
+-- one byte more was looked at
+pub digit-looked : (s : List ℕ) (i : ℕ) (t : Bool) → i < length s → t && all_hex (drop i s) ≡ (t && ltb (nibble (get_or s i 0)) 16) && all_hex (drop (i + 1) s)
+digit-looked s i t h = rw (digits_next s i h) (and-joined t (ltb (nibble (get_or s i 0)) 16) (all_hex (drop (i + 1) s)))
+  where
+    and-joined : (a b c : Bool) → a && (b && c) ≡ (a && b) && c
+    and-joined true b c = refl
+    and-joined false b c = refl
 
--- any other byte decides
-pub digit_bad : (s : List ℕ) (i : ℕ) (t : Bool) → i < length s → ltb (nibble (get_or s i 0)) 16 ≡ false → false && all_hex (drop (i + 1) s) ≡ t && all_hex (drop i s)
-digit_bad s i t h e = rw (digits_next s i h, e) (sym (and-false t))
+-- by these a text is known to be pairs
+pub ruleset looked = (even_digits, digit-looked, digits_end)
 
 -- ---- a pair
 
@@ -124,6 +128,25 @@ decoding_ends s first buffer k d h = go (dec_le (length s) (2 * k))
     go (yes l) = let e = decoded-end s (2 * k) l in (rw e at d.stored, omega (arith, ap length e, d.count))
     go (no l) = absurd (omega (arith, pair_here s (2 * k) d.pairs (omega arith)))
 
+-- the pairs of a text, and their two bytes
+chunk-pair : (k i : ℕ) (s : List ℕ) → i < k → get_or (first_chunks 2 k s) i [] ≡ take 2 (drop (2 * i) s)
+chunk-pair zero i s h = absurd (omega arith)
+chunk-pair (suc k) zero s h = refl
+chunk-pair (suc k) (suc i) s h =
+    let e : 2 + 2 * i ≡ 2 * suc i = omega arith in
+    chunk-pair k i (drop 2 s) (omega arith) ∙ ap (take 2) (drop-drop (2 * i) 2 s ∙ ap (λ (n : ℕ). drop n s) e)
+
+pub pair-high : (s : List ℕ) (i : ℕ) → i < length s / 2 → get_or (get_or (first_chunks 2 (length s / 2) s) i []) 0 0 ≡ get_or s (2 * i) 0
+pair-high s i h =
+    let e : 2 * i + 0 ≡ 2 * i = omega arith in
+    rw (chunk-pair (length s / 2) i s h) (get_or-take 2 (drop (2 * i) s) 0 0 (omega arith) ∙ get_or-drop (2 * i) s 0 0 ∙ ap (λ (n : ℕ). get_or s n 0) e)
+
+pub pair-low : (s : List ℕ) (i : ℕ) → i < length s / 2 → get_or (get_or (first_chunks 2 (length s / 2) s) i []) 1 0 ≡ get_or s (2 * i + 1) 0
+pair-low s i h = rw (chunk-pair (length s / 2) i s h) (get_or-take 2 (drop (2 * i) s) 1 0 (omega arith) ∙ get_or-drop (2 * i) s 1 0)
+
+-- by these pairs are read one by one
+pub ruleset decoding = (pair-high, pair-low, high_digit-at, low_digit-at, decoding_starts, decoding_goes_on, decoding_ends)
+
 -- ---- bytes as digits
 
 hex_append : (a b : List ℕ) → hex_of (a ++ b) ≡ hex_of a ++ hex_of b
@@ -137,3 +160,13 @@ unfolding hex_of
 hex-next s i h =
     rw (add-one, take-suc s i 0)
     (hex_append (take i s) (get_or s i 0 ∷ []) ∙ sym (append_assoc (hex_of (take i s)) (digit_of (get_or s i 0 / 16) ∷ []) (digit_of (get_or s i 0 % 16) ∷ [])))
+
+pub hex-none : hex_of [] ≡ []
+unfolding hex_of
+hex-none = refl
+
+pub hex-all : (s : List ℕ) (i : ℕ) → length s ≤ i → hex_of (take i s) ≡ hex_of s
+hex-all s i h = rw (take_all i s h)
+
+-- by these bytes are written one by one
+pub ruleset written = (hex-none, hex-next, hex-all)

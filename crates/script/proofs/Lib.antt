@@ -1,5 +1,6 @@
 -- Crate `script`: its laws.
 pub mod Texts
+pub mod Words
 pub mod Numbers
 pub mod Decimals
 pub mod HexDigits

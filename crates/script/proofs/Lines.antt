@@ -3,20 +3,21 @@
 use mathlib.Core.Path.{◌≡◌, refl, ◌∙◌}
 use mathlib.Core.Bool.{Bool, true, false, cond, ◌&&◌}
 use mathlib.Core.List.{List, [], ◌∷◌}
-use Prim.Native.Nat.{ℕ, ◌+◌, ◌*◌, ◌≤◌, ◌<◌}
+use Prim.Native.Nat.{ℕ, ◌*◌, ◌≤◌, ◌<◌}
 use native.Mathlib.Omega.{arith}
 use lib.Dec.{leb}
-use lib.ListN.{length, get_or}
+use lib.ListN.{length}
 use lib.Seq.{sets}
-use borrow.Author.Tests.{le-leb, leb-true}
-use Rattle.script.specs.declared.line.Verb.{Verb}
+use borrow.Author.Tests.{ne_eqb, le-leb, lt-leb, leb-true}
 use Rattle.script.specs.Text.{space, dash, before, after}
-use Rattle.script.specs.Number.{found, malformed, number_of}
-use Rattle.script.specs.Hex.{hex_pairs, decoded, hex_of, bytes_text}
-use Rattle.script.specs.Line.{longest_line, most_bytes, AllBytes, Field, bytes, count, count_of, is_count, no_bytes_of, is_dash, verb_of, is_hex, count_value, field_of, with_field, fields, parse}
-use Rattle.script.specs.Parsed.{bytes_in, buffer_after}
+use Rattle.std.specs.Prelude.{Some, None, option_and_then}
+use Rattle.script.specs.Number.{number_of}
+use Rattle.script.specs.Hex.{hex_pairs, decoded}
+use Rattle.script.specs.Line.{longest_line, most_bytes, Field, bytes, count, count_of, is_count, no_bytes_of, is_dash, verb_of, is_hex, count_value, field_of, with_field, fields, parse}
+use Rattle.script.specs.Parsed.{bytes_in, buffer_with}
 use Rattle.script.proofs.Texts.{and_left, and_right}
-use Rattle.script.proofs.HexDigits.{decoded-length, decoded-bytes}
+use Rattle.script.proofs.Words.{same-tests}
+use Rattle.script.proofs.HexDigits.{decoded-length}
 
 -- ---- a field of bytes
 
@@ -28,76 +29,55 @@ pub hex-pairs : (s : List ℕ) → is_hex s ≡ true → hex_pairs s ≡ true
 unfolding is_hex
 hex-pairs s e = and_right (leb (length s) (2 * most_bytes)) (hex_pairs s) (and_right (leb 1 (length s)) (leb (length s) (2 * most_bytes) && hex_pairs s) e)
 
-pub bytes-text-none : (s : List ℕ) → length s ≡ 0 → bytes_text s ≡ dash ∷ []
-unfolding bytes_text
-bytes-text-none [] e = refl
-bytes-text-none (a ∷ s) e = absurd (omega arith)
+pub hex-no_dash : (s : List ℕ) → is_hex s ≡ true → is_dash s ≡ false
+unfolding is_dash
+hex-no_dash s e = same-tests s (dash ∷ []) ∙ rw (ne_eqb (length s) 1 (λ n. omega (arith, decoded-length s (hex-pairs s e))))
 
-pub bytes-text-some : (s : List ℕ) → (length s ≡ 0 → ⊥) → bytes_text s ≡ hex_of s
-unfolding bytes_text
-bytes-text-some [] h = absurd (h refl)
-bytes-text-some (a ∷ s) h = refl
+-- by these a field of digits can be decoded
+pub ruleset digits = (hex-short, hex-pairs, hex-no_dash)
 
 -- ---- a count
 
--- a buffer of two bytes, filled by two
-fill-two : (a b : ℕ) (bs : List ℕ) → length bs ≡ 2 → sets (a ∷ b ∷ []) 0 bs ≡ bs
-fill-two a b [] e = absurd (omega arith)
-fill-two a b (x ∷ []) e = absurd (omega arith)
-fill-two a b (x ∷ y ∷ []) e = refl
-fill-two a b (x ∷ y ∷ z ∷ bs) e = absurd (omega arith)
+two-filled : (bs : List ℕ) → length bs ≡ 2 → sets (0 ∷ 0 ∷ []) 0 bs ≡ bs
+two-filled [] e = absurd (omega arith)
+two-filled (x ∷ []) e = absurd (omega arith)
+two-filled (x ∷ y ∷ []) e = refl
+two-filled (x ∷ y ∷ z ∷ bs) e = absurd (omega arith)
 
-bytes_small : (bs : List ℕ) → length bs ≡ 2 → AllBytes bs → (get_or bs 0 0 < 256) × (get_or bs 1 0 < 256)
-unfolding AllBytes
-bytes_small [] e h = absurd (omega arith)
-bytes_small (x ∷ []) e h = absurd (omega arith)
-bytes_small (x ∷ y ∷ []) e h = (h.0, h.1.0)
-bytes_small (x ∷ y ∷ z ∷ bs) e h = absurd (omega arith)
+-- four digits fill a buffer of two bytes
+pub four-decoded : (s : List ℕ) → length s ≡ 4 → hex_pairs s ≡ true → sets (0 ∷ 0 ∷ []) 0 (decoded s) ≡ decoded s
+four-decoded s n h = two-filled (decoded s) (omega (arith, decoded-length s h))
 
--- the number that four digits spell, from the two bytes that they stand for
-pub record Counted (s two : List ℕ) : Type 0 where
-  pub high : get_or two 0 0 < 256
-  pub low : get_or two 1 0 < 256
-  pub value : count_value s ≡ get_or two 0 0 * 256 + get_or two 1 0
-
-pub counted : (s two : List ℕ) (a b : ℕ) → length s ≡ 4 → hex_pairs s ≡ true → two ≡ sets (a ∷ b ∷ []) 0 (decoded s) → Counted s two
-unfolding count_value
-counted s two a b n h e =
-    let k : length (decoded s) ≡ 2 = omega (arith, decoded-length s h) in
-    let same : two ≡ decoded s = e ∙ fill-two a b (decoded s) k in
-    let small = bytes_small (decoded s) k (decoded-bytes s h) in
-    record { high = rw same small.0; low = rw same small.1; value = rw same }
+pub ruleset counts = (four-decoded)
 
 -- ---- a count and an empty field leave the buffer as it was
 
-keeps-cond : (t : Bool) (v : Verb) (n : ℕ) (f : Field) (d : List ℕ) → bytes_in f ≡ [] → d ≡ buffer_after d (with_field v n (cond t (found f) malformed))
-keeps-cond true v n f d e = rw e
-keeps-cond false v n f d e = refl
+keeps-cond : (t : Bool) (f : Field) (d : List ℕ) → bytes_in f ≡ [] → buffer_with d (cond t (Some f) None) ≡ d
+keeps-cond true f d e = rw e
+keeps-cond false f d e = refl
 
-pub count-keeps : (v : Verb) (n : ℕ) (s d : List ℕ) → d ≡ buffer_after d (with_field v n (count_of s))
+pub count-keeps : (d s : List ℕ) → buffer_with d (count_of s) ≡ d
 unfolding count_of
-count-keeps v n s d = keeps-cond (is_count s) v n (count (count_value s)) d refl
+count-keeps d s = keeps-cond (is_count s) (count (count_value s)) d refl
 
-pub empty-keeps : (v : Verb) (n : ℕ) (s d : List ℕ) → d ≡ buffer_after d (with_field v n (no_bytes_of s))
+pub empty-keeps : (d s : List ℕ) → buffer_with d (no_bytes_of s) ≡ d
 unfolding no_bytes_of
-empty-keeps v n s d = keeps-cond (is_dash s) v n (bytes []) d refl
+empty-keeps d s = keeps-cond (is_dash s) (bytes []) d refl
+
+pub ruleset keeps = (count-keeps, empty-keeps)
 
 -- ---- a line
 
-module _ (s : List ℕ) (short : length s ≤ longest_line) where
-  parse-fields : parse s ≡ fields s
-  unfolding parse
-  parse-fields = rw (le-leb (length s) longest_line short)
+pub parse-long : (s : List ℕ) → longest_line < length s → parse s ≡ None
+unfolding parse
+parse-long s h = rw (lt-leb (length s) longest_line h)
 
-  pub parse_third : (v : Verb) (n : ℕ) (f : List ℕ) → verb_of (before space s) ≡ found v → number_of (before space (after space s)) ≡ found n
-      → f ≡ after space (after space s) → parse s ≡ with_field v n (field_of v n f)
-  unfolding fields
-  parse_third v n f p q r = parse-fields ∙ rw (p, q, r)
+pub parse-fields : (s : List ℕ) → length s ≤ longest_line
+    → parse s
+    ≡ option_and_then
+    (λ v. option_and_then (λ n. with_field v n (field_of v n (after space (after space s)))) (number_of (before space (after space s))))
+    (verb_of (before space s))
+unfolding parse fields
+parse-fields s h = rw (le-leb (length s) longest_line h)
 
-  pub parse_no_number : (v : Verb) → verb_of (before space s) ≡ found v → number_of (before space (after space s)) ≡ malformed → parse s ≡ malformed
-  unfolding fields
-  parse_no_number v p q = parse-fields ∙ rw (p, q)
-
-  pub parse_no_verb : verb_of (before space s) ≡ malformed → parse s ≡ malformed
-  unfolding fields
-  parse_no_verb p = parse-fields ∙ rw p
+pub ruleset lines = (parse-long, parse-fields)

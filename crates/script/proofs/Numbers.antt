@@ -1,17 +1,18 @@
 -- Laws of decimal numbers, for the code that reads and writes them. 48 is `0`, and 57 is `9`.
 -- Assumes nothing.
 use mathlib.Core.Path.{◌≡◌, refl, sym, ◌∙◌}
-use mathlib.Core.Bool.{Bool, true, false, cond, ◌&&◌, not}
+use mathlib.Core.Bool.{Bool, true, false, cond, ◌&&◌}
 use mathlib.Core.List.{List, [], ◌∷◌, ◌++◌}
 use Prim.Native.Nat.{ℕ, zero, suc, ◌+◌, ◌-◌, ◌*◌, ◌/◌, ◌%◌, ◌^◌, ◌≤◌, ◌<◌}
 use native.Mathlib.Nat.{pow-suc}
 use native.Mathlib.Numerals.{add-one}
 use native.Mathlib.Omega.{arith}
-use lib.Dec.{eqb, ltb}
+use lib.Dec.{leb, ltb}
 use lib.ListN.{length, get_or, drop, drop_of_length-le}
 use lib.Seq.{drop-cons}
 use borrow.Author.Tests.{lt-ltb, le-ltb, le-leb, lt-leb}
-use Rattle.script.specs.Number.{found, malformed, most_number, is_digit, all_digits, plain_start, value_from, is_number, number_of, spelled, decimal}
+use Rattle.std.specs.Prelude.{Option, Some, None}
+use Rattle.script.specs.Number.{most_number, is_digit, all_digits, plain_start, value_from, is_number, number_of, spelled, decimal}
 
 -- ---- reading digit by digit
 
@@ -31,12 +32,6 @@ pub value-end : (v : ℕ) (s : List ℕ) (i : ℕ) → length s ≤ i → value_
 unfolding value_from
 value-end v s i h = rw (drop_of_length-le s h)
 
-pub bad_digit : (s : List ℕ) (i : ℕ) → i < length s → is_digit (get_or s i 0) ≡ false → all_digits (drop i s) ≡ false
-bad_digit s i h e = rw (digits_next s i h, e)
-
-pub good_digit : (s : List ℕ) (i : ℕ) → i < length s → is_digit (get_or s i 0) ≡ true → all_digits (drop i s) ≡ all_digits (drop (i + 1) s)
-good_digit s i h e = rw (digits_next s i h, e)
-
 pub is_digit_lem : (b : ℕ) → 48 ≤ b → b ≤ 57 → is_digit b ≡ true
 unfolding is_digit
 is_digit_lem b lo hi = simp (le-leb 48 b lo, le-leb b 57 hi)
@@ -54,44 +49,49 @@ unfolding value_from
 value-least [] v = omega arith
 value-least (b ∷ s) v = omega (arith, value-least s (v * 10 + (b - 48)))
 
--- ---- the first digit
-
-pub plain-empty : (s : List ℕ) → length s ≡ 0 → plain_start s ≡ false
-unfolding plain_start
-plain-empty [] e = refl
-plain-empty (a ∷ s) e = absurd (omega arith)
-
-pub plain-one : (s : List ℕ) → length s ≡ 1 → plain_start s ≡ true
-unfolding plain_start
-plain-one [] e = absurd (omega arith)
-plain-one (a ∷ []) e = refl
-plain-one (a ∷ b ∷ s) e = absurd (omega arith)
-
-pub plain_more : (s : List ℕ) → (length s ≡ 0 → ⊥) → (length s ≡ 1 → ⊥) → plain_start s ≡ not (eqb (get_or s 0 0) 48)
-unfolding plain_start
-plain_more [] h k = absurd (h refl)
-plain_more (a ∷ []) h k = absurd (k refl)
-plain_more (a ∷ b ∷ s) h k = refl
-
 -- ---- a text is a number, or breaks one of three rules
 
-pub no_start : (s : List ℕ) → plain_start s ≡ false → number_of s ≡ malformed
-unfolding number_of is_number
-no_start s p = rw p
+-- the number that a text goes on to say where the digits before it spelled v
+unfoldable pub number_from : ℕ → List ℕ → Option ℕ
+number_from v s = cond (all_digits s && leb (value_from v s) most_number) (Some (value_from v s)) None
 
-pub no_digits : (s : List ℕ) → plain_start s ≡ true → all_digits s ≡ false → number_of s ≡ malformed
+pub no-start : (s : List ℕ) → plain_start s ≡ false → number_of s ≡ None
 unfolding number_of is_number
-no_digits s p d = rw (p, d)
+no-start s p = rw p
 
-pub no_range : (s : List ℕ) → plain_start s ≡ true → most_number < value_from 0 s → number_of s ≡ malformed
-unfolding number_of is_number
-no_range s p v = rw (p, lt-leb (value_from 0 s) most_number v) (drops (all_digits s))
+pub number-start : (s : List ℕ) → plain_start s ≡ true → number_of s ≡ number_from 0 s
+unfolding number_of is_number number_from
+number-start s p = rw p
+
+pub number-digit : (v : ℕ) (s : List ℕ) (i : ℕ) → i < length s → 48 ≤ get_or s i 0 → get_or s i 0 ≤ 57
+    → number_from v (drop i s) ≡ number_from (v * 10 + (get_or s i 0 - 48)) (drop (i + 1) s)
+unfolding number_from
+number-digit v s i h lo hi = rw (digits_next s i h, is_digit_lem _ lo hi, value-next v s i h)
+
+pub number-low : (v : ℕ) (s : List ℕ) (i : ℕ) → i < length s → get_or s i 0 < 48 → number_from v (drop i s) ≡ None
+unfolding number_from
+number-low v s i h e = rw (digits_next s i h, too_low _ e)
+
+pub number-high : (v : ℕ) (s : List ℕ) (i : ℕ) → i < length s → 57 < get_or s i 0 → number_from v (drop i s) ≡ None
+unfolding number_from
+number-high v s i h e = rw (digits_next s i h, too_high _ e)
+
+pub number-large : (v : ℕ) (s : List ℕ) → most_number < v → number_from v s ≡ None
+unfolding number_from
+number-large v s h = rw (lt-leb (value_from v s) most_number (omega (arith, value-least s v))) (drops (all_digits s))
   where
-    drops : (t : Bool) → cond (t && false) (found (value_from 0 s)) malformed ≡ malformed
+    drops : (t : Bool) → cond (t && false) (Some (value_from v s)) None ≡ None
     drops true = refl
     drops false = refl
 
-pub a-number : (s : List ℕ) → plain_start s ≡ true → all_digits s ≡ true → value_from 0 s ≤ most_number → number_of s ≡ found (value_from 0 s)
+pub number-end : (v : ℕ) (s : List ℕ) (i : ℕ) → length s ≤ i → v ≤ most_number → number_from v (drop i s) ≡ Some v
+unfolding number_from
+number-end v s i h e = rw (digits_end s i h, value-end v s i h, le-leb v most_number e)
+
+-- by these a text is read digit by digit
+pub ruleset read = (no-start, number-start, number-digit, number-low, number-high, number-large, number-end)
+
+pub a-number : (s : List ℕ) → plain_start s ≡ true → all_digits s ≡ true → value_from 0 s ≤ most_number → number_of s ≡ Some (value_from 0 s)
 unfolding number_of is_number
 a-number s p d v = rw (p, d, le-leb (value_from 0 s) most_number v)
 
@@ -133,3 +133,6 @@ decimal-more n h b =
     spelled-more n h
     ∙ sym (spelled-room 18 (n / 10) ((48 + n % 10) ∷ []) (omega arith))
     ∙ spelled_append 20 (n / 10) [] ((48 + n % 10) ∷ [])
+
+-- by these a number is written digit by digit
+pub ruleset digits = (decimal-small, decimal-more)

@@ -1,18 +1,18 @@
 -- What `parse_line` answers: nothing is lost, and sizes are small.
 -- Assumes nothing.
-use mathlib.Core.Path.{◌≡◌, refl, ap}
+use mathlib.Core.Path.{◌≡◌, refl, sym, ap, ◌∙◌}
 use mathlib.Core.List.{List}
 use Prim.Native.Nat.{ℕ, ◌+◌, ◌≤◌}
 use native.Mathlib.Omega.{arith}
 use lib.ListN.{length, take, drop}
-use lib.Seq.{sets, sets-eq, take_at, length-sets}
+use lib.Seq.{sets, sets-eq, take_at}
 use Rattle.script.specs.declared.line.Verb.{Verb}
 use Rattle.script.specs.declared.line.Verb.TheVariants.{Open, Feed, Draw, Check, Close, Sum}
 use Rattle.script.specs.declared.line.Parsed.{Parsed}
-use Rattle.script.specs.declared.line.Parsed.TheVariants.{Call}
-use Rattle.script.specs.Number.{Reading, found, malformed}
-use Rattle.script.specs.Line.{most_bytes, Line, Field, bytes, count, SomeBytes, NoBytes, ACount, FieldFits, Valid, parse}
-use Rattle.script.specs.Parsed.{field_in, line_with, line_in, size_of, bytes_in, parsed_of, buffer_after}
+use Rattle.std.specs.Prelude.{Option, Some, None}
+use Rattle.script.specs.Line.{most_bytes, Line, Field, bytes, count, SomeBytes, NoBytes, ACount, FieldFits, Valid, field_of, with_field, parse}
+use Rattle.script.specs.Parsed.{field_in, line_with, size_of, bytes_in, parsed_of, size_read, buffer_with}
+use Rattle.script.proofs.Texts.{none-some}
 use Rattle.script.proofs.RoundTrip.{read-printed}
 
 -- ---- the answer and the buffer, put together
@@ -45,17 +45,17 @@ module _ (d : List ℕ) (room : length d ≡ most_bytes) where
   line-from : (l : Line) → Valid l → line_with l.verb l.number (size_of l.field) (sets d 0 (bytes_in l.field)) ≡ l
   line-from l h = ap (λ (f : Field). record { verb = l.verb; number = l.number; field = f }) (field-from l.verb l.number l.field h.field)
 
-  from-read : (s : List ℕ) (r : Reading Line) → parse s ≡ r → line_in (parsed_of r) (buffer_after d r) ≡ r
-  from-read s (found l) e = ap found (line-from l (read-printed s l e).1)
-  from-read s malformed e = refl
-
-  -- an answer and the buffer stand for the line that was read
-  pub nothing_lost : (s : List ℕ) → line_in (parsed_of (parse s)) (buffer_after d (parse s)) ≡ parse s
-  nothing_lost s = from-read s (parse s) refl
-
-  -- so what `parse_line` answers, with the buffer that it leaves, stands for the line
-  pub parsed_line : (s : List ℕ) (p : Parsed) (e : List ℕ) → p ≡ parsed_of (parse s) → e ≡ buffer_after d (parse s) → line_in p e ≡ parse s
-  parsed_line s p e answer buffer = rw (answer, buffer) (nothing_lost s)
+  -- an answer that is put together from a verb, a number and what was read of the third field stands, with the buffer, for the line
+  pub line-read : (s t e : List ℕ) (v : Verb) (n k : ℕ)
+      → parse s ≡ with_field v n (field_of v n t) → Some k ≡ size_read (field_of v n t) → e ≡ buffer_with d (field_of v n t) → Some (line_with v n k e) ≡ parse s
+  line-read s t e v n k p q b =
+      go (field_of v n t) p q b
+    where
+      go : (r : Option Field) → parse s ≡ with_field v n r → Some k ≡ size_read r → e ≡ buffer_with d r → Some (line_with v n k e) ≡ parse s
+      go (Some f) p q b =
+          let w : k ≡ size_of f = cc in
+          rw (w, b) (ap Some (line-from (record { verb = v; number = n; field = f }) (read-printed s (record { verb = v; number = n; field = f }) p).1) ∙ sym p)
+      go None p q b = absurd (none-some (sym q))
 
 -- ---- sizes
 
@@ -81,16 +81,11 @@ field-size Close n f h = none-size f h
 field-size Sum n f h = none-size f h.0
 
 -- a call's size is at most 1,024
-pub call-size : (s : List ℕ) (v : Verb) (n k : ℕ) → parsed_of (parse s) ≡ Call v n k → k ≤ most_bytes
-call-size s v n k e = go (parse s) refl e
+pub parsed-size : (s : List ℕ) (p : Parsed) → parsed_of (parse s) ≡ Some p → p.size ≤ most_bytes
+parsed-size s p e = go (parse s) refl e
   where
-    go : (r : Reading Line) → parse s ≡ r → parsed_of r ≡ Call v n k → k ≤ most_bytes
-    go (found l) p q =
-        let w : size_of l.field ≡ k = cc in
-        omega (arith, w, field-size l.verb l.number l.field (read-printed s l p).1.field)
-    go malformed p q = let z : ◌≡◌ {A = ℕ} 0 1 = cc in absurd (omega arith)
-
--- the buffer keeps its length
-pub buffer-length : (d : List ℕ) (r : Reading Line) → length (buffer_after d r) ≡ length d
-buffer-length d (found l) = length-sets d 0 (bytes_in l.field)
-buffer-length d malformed = refl
+    go : (r : Option Line) → parse s ≡ r → parsed_of r ≡ Some p → p.size ≤ most_bytes
+    go (Some l) q f =
+        let w : size_of l.field ≡ p.size = cc in
+        omega (arith, w, field-size l.verb l.number l.field (read-printed s l q).1.field)
+    go None q f = absurd (none-some f)

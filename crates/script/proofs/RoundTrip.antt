@@ -14,14 +14,15 @@ use Rattle.checks.proofs.Equality.{same-equal}
 use Rattle.script.specs.declared.line.Verb.{Verb}
 use Rattle.script.specs.declared.line.Verb.TheVariants.{Open, Feed, Draw, Check, Close, Sum}
 use Rattle.script.specs.Text.{space, dash, before, after}
-use Rattle.script.specs.Number.{Reading, found, malformed, most_number, is_digit, all_digits, plain_start, value_from, is_number, number_of, decimal}
-use Rattle.script.specs.Hex.{hex_pairs, decoded, hex_of, bytes_text, digit_of}
-use Rattle.script.specs.Line.{Line, Field, bytes, count, longest_line, most_bytes, most_count, name, field_text, render, AllBytes, SomeBytes, NoBytes, ACount, FieldFits, Valid, verb_of, is_dash, is_hex, bytes_of, no_bytes_of, count_value, is_count, count_of, field_of, with_field, with_verb, fields, parse}
+use Rattle.std.specs.Prelude.{Option, Some, None, option_and_then}
+use Rattle.script.specs.Number.{most_number, is_digit, all_digits, plain_start, value_from, is_number, number_of, decimal}
+use Rattle.script.specs.Hex.{hex_pairs, decoded, hex_of, bytes_text}
+use Rattle.script.specs.Line.{Line, Field, bytes, count, longest_line, most_bytes, most_count, name, field_text, render, AllBytes, SomeBytes, NoBytes, ACount, FieldFits, Valid, verb_of, is_dash, is_hex, bytes_of, no_bytes_of, count_value, is_count, count_of, field_of, with_field, fields, parse}
 use Rattle.script.specs.Laws.{PrintedLines}
-use Rattle.script.proofs.Texts.{and_left, and_right, and-false}
+use Rattle.script.proofs.Texts.{and_left, and_right, none-some}
 use Rattle.script.proofs.Decimals.{decimal_digits, decimal-read, decimal-long, spelled_back, digit_range}
 use Rattle.script.proofs.HexDigits.{hex-length, bytes-text-long, decoded-length, hex-is-pairs, hex-decoded, decoded-hex, decoded-bytes}
-use Rattle.script.proofs.Lines.{bytes-text-some, parse_third, hex-short, hex-pairs}
+use Rattle.script.proofs.Lines.{parse-fields, hex-short, hex-pairs, hex-no_dash}
 
 -- ---- a printed line is cut at its spaces
 
@@ -56,7 +57,7 @@ unfolding after all_digits
 after_digits [] r e = refl
 after_digits (b ∷ w) r e = rw (no_space b (and_left (is_digit b) (all_digits w) e)) (after_digits w r (and_right (is_digit b) (all_digits w) e))
 
-verb-read : (v : Verb) → verb_of (name v) ≡ found v
+verb-read : (v : Verb) → verb_of (name v) ≡ Some v
 unfolding verb_of same
 verb-read Open = refl
 verb-read Feed = refl
@@ -67,32 +68,26 @@ verb-read Sum = refl
 
 -- ---- fields are read back
 
-long_no_dash : (a b : ℕ) (s : List ℕ) → is_dash (a ∷ b ∷ s) ≡ false
-unfolding is_dash same
-long_no_dash a b s = and-false (eqb a dash)
-
 dash-read : is_dash (dash ∷ []) ≡ true
 unfolding is_dash same
 dash-read = refl
 
-hex_no_dash : (b : ℕ) (bs : List ℕ) → is_dash (hex_of (b ∷ bs)) ≡ false
-unfolding hex_of
-hex_no_dash b bs = long_no_dash (digit_of (b / 16)) (digit_of (b % 16)) (hex_of bs)
-
-bytes_read : (bs : List ℕ) → length bs ≤ most_bytes → AllBytes bs → bytes_of (bytes_text bs) ≡ found (bytes bs)
-unfolding bytes_of bytes_text is_hex
-bytes_read [] h k = rw dash-read
-bytes_read (b ∷ bs) h k =
+hex-read : (b : ℕ) (bs : List ℕ) → length (b ∷ bs) ≤ most_bytes → AllBytes (b ∷ bs) → is_hex (hex_of (b ∷ bs)) ≡ true
+unfolding is_hex
+hex-read b bs h k =
     let n = hex-length (b ∷ bs) in
     rw (
-      hex_no_dash b bs,
       le-leb 1 (length (hex_of (b ∷ bs))) (omega arith),
       le-leb (length (hex_of (b ∷ bs))) (2 * most_bytes) (omega arith),
       hex-is-pairs (b ∷ bs) k,
-      hex-decoded (b ∷ bs) k,
     )
 
-none_read : no_bytes_of (dash ∷ []) ≡ found (bytes [])
+bytes_read : (bs : List ℕ) → length bs ≤ most_bytes → AllBytes bs → bytes_of (bytes_text bs) ≡ Some (bytes bs)
+unfolding bytes_of bytes_text
+bytes_read [] h k = rw dash-read
+bytes_read (b ∷ bs) h k = let e = hex-read b bs h k in rw (hex-no_dash (hex_of (b ∷ bs)) e, e, hex-decoded (b ∷ bs) k)
+
+none_read : no_bytes_of (dash ∷ []) ≡ Some (bytes [])
 unfolding no_bytes_of
 none_read = rw dash-read
 
@@ -105,7 +100,7 @@ count-back : (k : ℕ) → k ≤ most_count → count_value (hex_of (k / 256 ∷
 unfolding count_value
 count-back k h = rw (hex-decoded (k / 256 ∷ k % 256 ∷ []) (count-bytes k h)) (omega arith)
 
-count-read : (k : ℕ) → k ≤ most_count → count_of (hex_of (k / 256 ∷ k % 256 ∷ [])) ≡ found (count k)
+count-read : (k : ℕ) → k ≤ most_count → count_of (hex_of (k / 256 ∷ k % 256 ∷ [])) ≡ Some (count k)
 unfolding count_of is_count
 count-read k h =
     let e = count-back k h in
@@ -116,22 +111,22 @@ count-read k h =
       le-leb k most_count h,
     )
 
-some_read : (f : Field) → SomeBytes f → bytes_of (field_text f) ≡ found f
+some_read : (f : Field) → SomeBytes f → bytes_of (field_text f) ≡ Some f
 unfolding field_text
 some_read (bytes bs) h = bytes_read bs h.0 h.1
 some_read (count k) h = absurd h
 
-no_read : (f : Field) → NoBytes f → no_bytes_of (field_text f) ≡ found f
+no_read : (f : Field) → NoBytes f → no_bytes_of (field_text f) ≡ Some f
 unfolding field_text bytes_text
 no_read (bytes bs) h = rw h none_read
 no_read (count k) h = absurd h
 
-draw-read : (f : Field) → ACount f → count_of (field_text f) ≡ found f
+draw-read : (f : Field) → ACount f → count_of (field_text f) ≡ Some f
 unfolding field_text
 draw-read (bytes bs) h = absurd h
 draw-read (count k) h = count-read k h
 
-field-read : (v : Verb) (n : ℕ) (f : Field) → FieldFits v n f → field_of v n (field_text f) ≡ found f
+field-read : (v : Verb) (n : ℕ) (f : Field) → FieldFits v n f → field_of v n (field_text f) ≡ Some f
 unfolding field_of FieldFits
 field-read Open n f h = some_read f h
 field-read Feed n f h = some_read f h
@@ -188,7 +183,7 @@ render-long l h =
 
 -- ---- what is printed is read back
 
-pub printed-read : (l : Line) → Valid l → parse (render l) ≡ found l
+pub printed-read : (l : Line) → Valid l → parse (render l) ≡ Some l
 unfolding render
 printed-read l h =
     let v = l.verb in
@@ -196,34 +191,33 @@ printed-read l h =
     let f = field_text l.field in
     let b = before-name v (decimal n ++ space ∷ f) in
     let a = after-name v (decimal n ++ space ∷ f) in
-    parse_third (render l) (render-long l h) v n f
-    (ap verb_of b ∙ verb-read v)
-    (ap (λ (r : List ℕ). number_of (before space r)) a ∙ ap number_of (before_digits (decimal n) f (decimal_digits n)) ∙ decimal-read n h.number)
-    (sym (ap (after space) a ∙ after_digits (decimal n) f (decimal_digits n)))
-    ∙ ap (with_field v n) (field-read v n l.field h.field)
+    parse-fields (render l) (render-long l h)
+    ∙ rw (
+      ap verb_of b ∙ verb-read v,
+      ap (λ (r : List ℕ). number_of (before space r)) a ∙ ap number_of (before_digits (decimal n) f (decimal_digits n)) ∙ decimal-read n h.number,
+      ap (after space) a ∙ after_digits (decimal n) f (decimal_digits n),
+    )
+    (ap (with_field v n) (field-read v n l.field h.field))
 
 -- ---- what a line that is read was
 
 -- a choice between a value and another reading gave y: by its first case, or by its second
-chosen : {A : Type 0} (t : Bool) (x : A) (r : Reading A) (y : A) → cond t (found x) r ≡ found y → ((t ≡ true) × (x ≡ y)) ⊎ ((t ≡ false) × (r ≡ found y))
+chosen : {A : Type 0} (t : Bool) (x : A) (r : Option A) (y : A) → cond t (Some x) r ≡ Some y → ((t ≡ true) × (x ≡ y)) ⊎ ((t ≡ false) × (r ≡ Some y))
 chosen true x r y e = inl (refl, cc)
 chosen false x r y e = inr (refl, e)
 
-never : {A B : Type 0} (y : A) → malformed ≡ found y → B
-never y e = let z : ◌≡◌ {A = ℕ} 0 1 = cc in absurd (omega arith)
-
-only : {A : Type 0} (t : Bool) (x y : A) → cond t (found x) malformed ≡ found y → (t ≡ true) × (x ≡ y)
-only t x y e = ⊎_elim (λ p. p) (λ p. never y p.1) (chosen t x malformed y e)
+only : {A : Type 0} (t : Bool) (x y : A) → cond t (Some x) None ≡ Some y → (t ≡ true) × (x ≡ y)
+only t x y e = ⊎_elim (λ p. p) (λ p. absurd (none-some p.1)) (chosen t x None y e)
 
 -- a verb's word is its name
-named : (s : List ℕ) (u v : Verb) (r : Reading Verb) → (r ≡ found v → s ≡ name v) → cond (same s (name u)) (found u) r ≡ found v → s ≡ name v
+named : (s : List ℕ) (u v : Verb) (r : Option Verb) → (r ≡ Some v → s ≡ name v) → cond (same s (name u)) (Some u) r ≡ Some v → s ≡ name v
 named s u v r other e = go (same s (name u)) refl e
   where
-    go : (t : Bool) → same s (name u) ≡ t → cond t (found u) r ≡ found v → s ≡ name v
+    go : (t : Bool) → same s (name u) ≡ t → cond t (Some u) r ≡ Some v → s ≡ name v
     go true p q = let w : u ≡ v = cc in same-equal s (name u) p ∙ ap name w
     go false p q = other q
 
-verb-back : (s : List ℕ) (v : Verb) → verb_of s ≡ found v → s ≡ name v
+verb-back : (s : List ℕ) (v : Verb) → verb_of s ≡ Some v → s ≡ name v
 unfolding verb_of
 verb-back s v =
     named s Open v _
@@ -231,13 +225,13 @@ verb-back s v =
     (named s Draw v _
     (named s Check v _
     (named s Close v _
-    (named s Sum v malformed (λ e. never v e))))))
+    (named s Sum v None (λ e. absurd (none-some e)))))))
 
-number-back : (s : List ℕ) (n : ℕ) → number_of s ≡ found n → (s ≡ decimal n) × (n ≤ most_number)
+number-back : (s : List ℕ) (n : ℕ) → number_of s ≡ Some n → (s ≡ decimal n) × (n ≤ most_number)
 unfolding number_of is_number
 number-back s n e = go (is_number s) refl e
   where
-    go : (t : Bool) → is_number s ≡ t → cond t (found (value_from 0 s)) malformed ≡ found n → (s ≡ decimal n) × (n ≤ most_number)
+    go : (t : Bool) → is_number s ≡ t → cond t (Some (value_from 0 s)) None ≡ Some n → (s ≡ decimal n) × (n ≤ most_number)
     go true p q =
         let w : value_from 0 s ≡ n = cc in
         let r = and_right (plain_start s) (all_digits s && leb (value_from 0 s) most_number) p in
@@ -246,7 +240,7 @@ number-back s n e = go (is_number s) refl e
               (and_left (all_digits s) (leb (value_from 0 s) most_number) r) m) ∙ ap decimal w,
           omega (arith, m, w),
         )
-    go false p q = never n q
+    go false p q = absurd (none-some q)
 
 -- ---- a field that is read was written so, and fits
 
@@ -258,11 +252,16 @@ dash-text : (s : List ℕ) → is_dash s ≡ true → s ≡ field_text (bytes []
 unfolding is_dash field_text bytes_text
 dash-text s e = same-equal s (dash ∷ []) e
 
-none-back : (s : List ℕ) (f : Field) → no_bytes_of s ≡ found f → (s ≡ field_text f) × NoBytes f
+none-back : (s : List ℕ) (f : Field) → no_bytes_of s ≡ Some f → (s ≡ field_text f) × NoBytes f
 unfolding no_bytes_of
 none-back s f e =
     let p = only (is_dash s) (bytes []) f e in
     subst (λ (g : Field). (s ≡ field_text g) × NoBytes g) p.1 (dash-text s p.0, refl)
+
+bytes-text-some : (s : List ℕ) → (length s ≡ 0 → ⊥) → bytes_text s ≡ hex_of s
+unfolding bytes_text
+bytes-text-some [] h = absurd (h refl)
+bytes-text-some (a ∷ s) h = refl
 
 hex-back : (s : List ℕ) → is_hex s ≡ true → (s ≡ field_text (bytes (decoded s))) × SomeBytes (bytes (decoded s))
 unfolding field_text
@@ -271,13 +270,13 @@ hex-back s e =
     let n = decoded-length s p in
     (sym (bytes-text-some (decoded s) (λ z. omega (arith, n, hex-some s e)) ∙ decoded-hex s p), (omega (arith, n, hex-short s e), decoded-bytes s p))
 
-some_back : (s : List ℕ) (f : Field) → bytes_of s ≡ found f → (s ≡ field_text f) × SomeBytes f
+some_back : (s : List ℕ) (f : Field) → bytes_of s ≡ Some f → (s ≡ field_text f) × SomeBytes f
 unfolding bytes_of AllBytes
 some_back s f e =
     ⊎_elim
     (λ p. subst (λ (g : Field). (s ≡ field_text g) × SomeBytes g) p.1 (dash-text s p.0, (omega arith, tt)))
     (λ p. let q = only (is_hex s) (bytes (decoded s)) f p.1 in subst (λ (g : Field). (s ≡ field_text g) × SomeBytes g) q.1 (hex-back s q.0))
-    (chosen (is_dash s) (bytes []) (cond (is_hex s) (found (bytes (decoded s))) malformed) f e)
+    (chosen (is_dash s) (bytes []) (cond (is_hex s) (Some (bytes (decoded s))) None) f e)
 
 -- two bytes are the number that they spell
 two_bytes : (bs : List ℕ) → length bs ≡ 2 → AllBytes bs → bs ≡ (get_or bs 0 0 * 256 + get_or bs 1 0) / 256 ∷ (get_or bs 0 0 * 256 + get_or bs 1 0) % 256 ∷ []
@@ -301,17 +300,17 @@ count-back-text s e =
       leb-true (count_value s) most_count (and_right (hex_pairs s) (leb (count_value s) most_count) r),
     )
 
-draw-back : (s : List ℕ) (f : Field) → count_of s ≡ found f → (s ≡ field_text f) × ACount f
+draw-back : (s : List ℕ) (f : Field) → count_of s ≡ Some f → (s ≡ field_text f) × ACount f
 unfolding count_of
 draw-back s f e =
     let p = only (is_count s) (count (count_value s)) f e in
     subst (λ (g : Field). (s ≡ field_text g) × ACount g) p.1 (count-back-text s p.0)
 
-sum_back : (t : Bool) (n : ℕ) (s : List ℕ) (f : Field) → eqb n 0 ≡ t → cond t (no_bytes_of s) malformed ≡ found f → (s ≡ field_text f) × (NoBytes f × (n ≡ 0))
+sum_back : (t : Bool) (n : ℕ) (s : List ℕ) (f : Field) → eqb n 0 ≡ t → cond t (no_bytes_of s) None ≡ Some f → (s ≡ field_text f) × (NoBytes f × (n ≡ 0))
 sum_back true n s f p e = let q = none-back s f e in (q.0, (q.1, eqb-true n 0 p))
-sum_back false n s f p e = never f e
+sum_back false n s f p e = absurd (none-some e)
 
-field_back : (v : Verb) (n : ℕ) (s : List ℕ) (f : Field) → field_of v n s ≡ found f → (s ≡ field_text f) × FieldFits v n f
+field_back : (v : Verb) (n : ℕ) (s : List ℕ) (f : Field) → field_of v n s ≡ Some f → (s ≡ field_text f) × FieldFits v n f
 unfolding field_of FieldFits
 field_back Open n s f e = some_back s f e
 field_back Feed n s f e = some_back s f e
@@ -323,19 +322,19 @@ field_back Sum n s f e = sum_back (eqb n 0) n s f refl e
 -- ---- the parts of a line
 
 -- what is read has the three parts that were read
-abbrev Parts : Reading Verb → Reading ℕ → List ℕ → Line → Type 0
-Parts w m s l = (w ≡ found l.verb) × (m ≡ found l.number) × (field_of l.verb l.number s ≡ found l.field)
+abbrev Parts : Option Verb → Option ℕ → List ℕ → Line → Type 0
+Parts w m s l = (w ≡ Some l.verb) × (m ≡ Some l.number) × (field_of l.verb l.number s ≡ Some l.field)
 
-parts : (w : Reading Verb) (m : Reading ℕ) (s : List ℕ) (l : Line) → with_verb w m s ≡ found l → Parts w m s l
-parts (found v) (found n) s l e = go (field_of v n s) refl e
+parts : (w : Option Verb) (m : Option ℕ) (s : List ℕ) (l : Line) → option_and_then (λ v. option_and_then (λ n. with_field v n (field_of v n s)) m) w ≡ Some l → Parts w m s l
+parts (Some v) (Some n) s l e = go (field_of v n s) refl e
   where
-    go : (r : Reading Field) → field_of v n s ≡ r → with_field v n r ≡ found l → Parts (found v) (found n) s l
-    go (found f) p q =
+    go : (r : Option Field) → field_of v n s ≡ r → with_field v n r ≡ Some l → Parts (Some v) (Some n) s l
+    go (Some f) p q =
         let w : record { verb = v; number = n; field = f } ≡ l = cc in
-        subst (λ (k : Line). Parts (found v) (found n) s k) w (refl, refl, p)
-    go malformed p q = never l q
-parts (found v) malformed s l e = never l e
-parts malformed m s l e = never l e
+        subst (λ (k : Line). Parts (Some v) (Some n) s k) w (refl, refl, p)
+    go None p q = absurd (none-some q)
+parts (Some v) None s l e = absurd (none-some e)
+parts None m s l e = absurd (none-some e)
 
 -- a text is what stands before a byte, the byte, and what stands after it, where there is something after it
 joined : (b : ℕ) (s : List ℕ) → 1 ≤ length (after b s) → s ≡ before b s ++ b ∷ after b s
@@ -354,7 +353,7 @@ field-not-empty (bytes []) = omega arith
 field-not-empty (bytes (b ∷ bs)) = omega arith
 field-not-empty (count k) = omega arith
 
-fields-printed : (s : List ℕ) (l : Line) → fields s ≡ found l → (s ≡ render l) × Valid l
+fields-printed : (s : List ℕ) (l : Line) → fields s ≡ Some l → (s ≡ render l) × Valid l
 unfolding fields render
 fields-printed s l e =
     let r : List ℕ = after space s in
@@ -373,13 +372,13 @@ fields-printed s l e =
 
 -- ---- what is read was printed so
 
-pub read-printed : (s : List ℕ) (l : Line) → parse s ≡ found l → (s ≡ render l) × Valid l
+pub read-printed : (s : List ℕ) (l : Line) → parse s ≡ Some l → (s ≡ render l) × Valid l
 unfolding parse
 read-printed s l e = go (leb (length s) longest_line) e
   where
-    go : (t : Bool) → cond t (fields s) malformed ≡ found l → (s ≡ render l) × Valid l
+    go : (t : Bool) → cond t (fields s) None ≡ Some l → (s ≡ render l) × Valid l
     go true q = fields-printed s l q
-    go false q = never l q
+    go false q = absurd (none-some q)
 
 pub printed-lines : PrintedLines
 printed-lines = record { back = printed-read; only = read-printed }

@@ -1,19 +1,24 @@
 -- Laws of cutting texts, and of writing them into a buffer.
 -- Assumes nothing.
-use mathlib.Core.Path.{◌≡◌, refl, sym, ap, ◌∙◌, subst}
+use mathlib.Core.Path.{◌≡◌, refl, sym, ap, ◌∙◌}
 use mathlib.Core.Bool.{Bool, true, false, cond, ◌&&◌, false≢true}
-use mathlib.Core.List.{List, [], ◌∷◌, ◌++◌}
+use mathlib.Core.List.{List, [], ◌∷◌, ◌++◌, append_assoc}
 use Prim.Native.Nat.{ℕ, suc, ◌+◌, ◌-◌, ◌≤◌, ◌<◌, min}
 use native.Mathlib.Nat.{min-eq_left, min-eq_right, add-suc, suc-add, add-zero}
 use native.Mathlib.Numerals.{add-one}
 use native.Mathlib.Omega.{arith}
 use native.Mathlib.Decide.{dec_le}
-use lib.Dec.{eqb}
-use lib.ListN.{length, get_or, set, take, drop, take-append-drop, length-append, length-drop, drop_of_length-le}
-use lib.Seq.{drop-cons, take-suc, take-nil, drop-length, take_all, length-take-le, set_out, sets, length-sets}
-use borrow.Author.Tests.{eq-eqb, ne_eqb, eqb-true}
-use Rattle.checks.proofs.Buffers.{part_to_end}
-use Rattle.script.specs.Text.{before, after, Wrote}
+use lib.Dec.{eqb, ltb}
+use lib.ListN.{length, get_or, set, take, drop, take-append-drop, length-append, drop_of_length-le}
+use lib.Seq.{take_all, length-take-le, set_out, sets, length-sets, drop-drop}
+use Rattle.std.proofs.lemmas.List.Edits.{sets-eq}
+use borrow.Author.Tests.{eqb-true, ltb-false}
+use Rattle.std.specs.Prelude.{Option, Some, None}
+use Rattle.std.specs.List.{position_or_len}
+use Rattle.std.proofs.lemmas.List.Recursion.{is_position_or_len}
+use Rattle.script.specs.declared.writer.Writer.{Writer}
+use Rattle.script.specs.Writing.{Puts}
+use Rattle.script.specs.Text.{before, after, put, past, Wrote}
 
 -- ---- two tests
 
@@ -29,21 +34,12 @@ pub and_right : (s t : Bool) → s && t ≡ true → t ≡ true
 and_right true t e = e
 and_right false t e = absurd (false≢true e)
 
+-- ---- nothing is not something
+
+pub none-some : {A : Type 0} {x : A} → None ≡ Some x → ⊥
+none-some e = cc
+
 -- ---- cutting
-
-before-next : (b : ℕ) (s : List ℕ) (i : ℕ) → i < length s → before b (drop i s) ≡ cond (eqb (get_or s i 0) b) [] (get_or s i 0 ∷ before b (drop (i + 1) s))
-unfolding before
-before-next b s i h = rw (add-one, drop-cons s i 0)
-
-pub before-end : (b : ℕ) (s : List ℕ) (i : ℕ) → length s ≤ i → before b (drop i s) ≡ []
-unfolding before
-before-end b s i h = rw (drop_of_length-le s h)
-
-pub before_here : (b : ℕ) (s : List ℕ) (i : ℕ) → i < length s → get_or s i 0 ≡ b → before b (drop i s) ≡ []
-before_here b s i h e = rw (before-next b s i h, eq-eqb _ _ e)
-
-pub before-later : (b : ℕ) (s : List ℕ) (i : ℕ) → i < length s → (get_or s i 0 ≡ b → ⊥) → before b (drop i s) ≡ get_or s i 0 ∷ before b (drop (i + 1) s)
-before-later b s i h e = rw (before-next b s i h, ne_eqb _ _ e)
 
 take-cond : (t : Bool) (a : ℕ) (s p : List ℕ) → take (length p) s ≡ p → take (length (cond t [] (a ∷ p))) (a ∷ s) ≡ cond t [] (a ∷ p)
 take-cond true a s p e = refl
@@ -97,21 +93,34 @@ unfolding before after
 drop-before b [] = refl
 drop-before b (a ∷ s) = drop-cond (eqb a b) a s (before b s) (after b s) (drop-before b s)
 
-pub after-found : (b : ℕ) (s : List ℕ) (i : ℕ) → i ≡ length (before b s) → drop (i + 1) s ≡ after b s
-after-found b s i e = rw (add-one, e) (drop-before b s)
+-- where the byte is found, or is not
+length-cond : (t : Bool) (a : ℕ) (p : List ℕ) → length (cond t [] (a ∷ p)) ≡ cond t 0 (1 + length p)
+length-cond true a p = refl
+length-cond false a p = omega arith
 
-pub after-missing : (b : ℕ) (s : List ℕ) → length s ≤ length (before b s) → after b s ≡ []
-after-missing b s h = sym (drop-before b s) ∙ drop_of_length-le s {i = suc (length (before b s))} (omega arith)
+place-before : (b : ℕ) (s : List ℕ) → length (before b s) ≡ position_or_len (λ x. eqb x b) s
+unfolding before
+place-before b s = is_position_or_len (λ t. length (before b t)) (λ x. eqb x b) refl (λ x t. length-cond (eqb x b) x (before b t)) s
 
--- what is left from `at` on, cut to `most`: nothing, all, or so many
-pub cut-none : (s : List ℕ) (at most : ℕ) → length s ≤ at → take (length s - length s) (drop (length s) s) ≡ take most (drop at s)
-cut-none s at most h = part_to_end s (length s) ∙ drop-length s ∙ sym (ap (take most) (drop_of_length-le s h) ∙ take-nil most)
+module _ (b : ℕ) (s : List ℕ) (r : Option ℕ)
+    (searched : r ≡ cond (ltb (position_or_len (λ x. eqb x b) s) (length s)) (Some (position_or_len (λ x. eqb x b) s)) None) where
+  pub cut-found : (at : ℕ) → r ≡ Some at → (take at s ≡ before b s) × (drop (at + 1) s ≡ after b s)
+  cut-found at e = go (ltb (position_or_len (λ x. eqb x b) s) (length s)) (sym searched ∙ e)
+    where
+      go : (t : Bool) → cond t (Some (position_or_len (λ x. eqb x b) s)) None ≡ Some at → (take at s ≡ before b s) × (drop (at + 1) s ≡ after b s)
+      go true p =
+          let q : at ≡ length (before b s) = let n = place-before b s in cc in
+          (rw q (take-before b s), rw (add-one, q) (drop-before b s))
+      go false p = absurd (none-some p)
 
-pub cut_all : (s : List ℕ) (at most : ℕ) → length s - at ≤ most → take (length s - at) (drop at s) ≡ take most (drop at s)
-cut_all s at most h = part_to_end s at ∙ sym (take_all most (drop at s) (rw length-drop h))
-
-pub cut-some : (s : List ℕ) (at most : ℕ) → take (at + most - at) (drop at s) ≡ take most (drop at s)
-cut-some s at most = let e : at + most - at ≡ most = omega arith in rw e
+  pub cut-missing : r ≡ None → (s ≡ before b s) × ([] ≡ after b s)
+  cut-missing e = go (ltb (position_or_len (λ x. eqb x b) s) (length s)) refl (sym searched ∙ e)
+    where
+      go : (t : Bool) → ltb (position_or_len (λ x. eqb x b) s) (length s) ≡ t → cond t (Some (position_or_len (λ x. eqb x b) s)) None ≡ None → (s ≡ before b s) × ([] ≡ after b s)
+      go true h p = absurd (none-some (sym p))
+      go false h p =
+          let n : length s ≤ length (before b s) = omega (arith, place-before b s, ltb-false _ _ h) in
+          (sym (take_all (length (before b s)) s n) ∙ take-before b s, sym (drop_of_length-le s {i = suc (length (before b s))} (omega arith)) ∙ drop-before b s)
 
 -- ---- writing
 
@@ -132,12 +141,6 @@ sets_append : (t u l : List ℕ) (i : ℕ) → sets l i (t ++ u) ≡ sets (sets 
 sets_append [] u l i = rw add-zero
 sets_append (a ∷ t) u l i = rw (add-suc, ← (suc-add i (length t))) (sets_append t u (set l i a) (suc i))
 
--- one byte more is stored
-pub sets-next : (l u : List ℕ) (at i : ℕ) → i < length u → set (sets l at (take i u)) (at + i) (get_or u i 0) ≡ sets l at (take (i + 1) u)
-sets-next l u at i h =
-    let n : length (take i u) ≡ i = length-take-le i u (omega arith) in
-    rw (add-one, take-suc u i 0, sets_append (take i u) (get_or u i 0 ∷ []) l at, n)
-
 -- what does not fit is left out
 sets-fitting : (l u : List ℕ) (at n : ℕ) → n ≡ min (length u) (length l - at) → sets l at (take n u) ≡ sets l at u
 sets-fitting l u at n e = go (dec_le (length u) n)
@@ -150,55 +153,60 @@ sets-fitting l u at n e = go (dec_le (length u) n)
         sym (ap (sets l at) (sym (take-append-drop n u)) ∙ sets_append (take n u) (drop n u) l at
         ∙ sets_past (drop n u) (sets l at (take n u)) (at + length (take n u)) (omega arith))
 
+-- as many bytes as fit are copied
+pub put-fitting : (l u w : List ℕ) (at start n k : ℕ) → start ≡ min at (length l) → n ≡ min (length u) (length l - start) → w ≡ take n u → k ≡ n
+    → take start l ++ (w ++ drop k (drop start l)) ≡ put u l at
+unfolding put
+put-fitting l u w at start n k p q e f =
+    let m : length (take n u) ≡ n = length-take-le n u (omega arith) in
+    let s : sets l start (take n u) ≡ take start l ++ take n u ++ drop (start + n) l = rw m at (sets-eq (take n u) l start (omega arith)) in
+    rw (e, f, drop-drop n start l, ← (append_assoc (take start l) (take n u) (drop (start + n) l)))
+    (sym s ∙ sets-fitting l u start n (omega arith) ∙ rw p (sets-min u l at))
+
+-- by this, bytes are copied
+pub ruleset fitting = (put-fitting)
+
+-- one text behind the other
+pub put_more : (t u l : List ℕ) (at : ℕ) → put (t ++ u) l at ≡ put u (put t l at) (past t l at)
+unfolding put past
+put_more t u l at = sets_append t u l at ∙ sym (rw (sym (length-sets l at t)) (sets-min u (sets l at t) (at + length t)))
+
+pub past_more : (t u l : List ℕ) (at : ℕ) → past (t ++ u) l at ≡ past u (put t l at) (past t l at)
+unfolding put past
+past_more t u l at = omega (arith, length-append t u, length-sets l at t)
+
+-- the first byte, and then the others
+pub put_first : (a : ℕ) (u l : List ℕ) (at : ℕ) → put (a ∷ u) l at ≡ put u (put (a ∷ []) l at) (past (a ∷ []) l at)
+put_first a u l at = put_more (a ∷ []) u l at
+
+pub past_first : (a : ℕ) (u l : List ℕ) (at : ℕ) → past (a ∷ u) l at ≡ past u (put (a ∷ []) l at) (past (a ∷ []) l at)
+past_first a u l at = past_more (a ∷ []) u l at
+
+-- by these, several parts written one behind the other are one text
+pub ruleset parts = (put_more, past_more, put_first, past_first)
+
 -- no byte: the place is the buffer's end where it was past it
 pub wrote_none : (l : List ℕ) (at n : ℕ) → n ≡ min at (length l) → Wrote l at [] l n
+unfolding put past
 wrote_none l at n e = record { bytes = refl; place = omega arith }
-
--- past the end nothing changes
-pub wrote_past : (l t : List ℕ) (at : ℕ) → length l ≤ at → Wrote l at t l (length l)
-wrote_past l t at h = record { bytes = sym (sets_past t l at h); place = omega arith }
 
 -- the buffer keeps its length
 pub wrote-length : {l t l' : List ℕ} {at n : ℕ} → Wrote l at t l' n → length l' ≡ length l
+unfolding put
 wrote-length {l} {t} {l'} {at} w = ap length w.bytes ∙ length-sets l at t
 
 -- the place behind the text is in the buffer
 pub wrote-inside : {l t l' : List ℕ} {at n : ℕ} → Wrote l at t l' n → n ≤ length l'
+unfolding past
 wrote-inside {l} {t} {l'} {at} {n} w = omega (arith, w.place, wrote-length w)
 
 -- one text behind the other is one text
 pub wrote-more : {l t l' u l'' : List ℕ} {at n m : ℕ} → Wrote l at t l' n → Wrote l' n u l'' m → Wrote l at (t ++ u) l'' m
-wrote-more {l} {t} {l'} {u} {l''} {at} {n} {m} w v =
-    let e : length l' ≡ length l = ap length w.bytes ∙ length-sets l at t in
-    let p : n ≡ min (at + length t) (length l') = rw e w.place in
-    record {
-      bytes = v.bytes ∙ rw (p, sets-min u l' (at + length t), w.bytes) (sym (sets_append t u l at));
-      place = rw (length-append t u) (omega (arith, w.place, v.place, e));
-    }
-
--- a text, of which as many bytes are stored as fit
-pub wrote-fitting : (l u last : List ℕ) (at start n : ℕ) → start ≡ min at (length l) → n ≡ min (length u) (length l - start) → last ≡ sets l start (take n u)
-    → Wrote l at u last (start + n)
-wrote-fitting l u last at start n p q e = record {
-  bytes = e ∙ sets-fitting l u start n q ∙ ap (λ (k : ℕ). sets l k u) p ∙ sets-min u l at;
-  place = omega arith;
+wrote-more {l} {t} {l'} {u} {l''} {at} {n} {m} w v = record {
+  bytes = v.bytes ∙ rw (w.bytes, w.place) (sym (put_more t u l at));
+  place = v.place ∙ rw (w.bytes, w.place) (sym (past_more t u l at));
 }
 
--- ---- a loop that writes: the text that is left, whatever writes it, completes the whole
-pub record TextLeft (whole first : List ℕ) (at : ℕ) (left text : List ℕ) (next : ℕ) : Type 0 where
-  pub inside : next ≤ length text
-  pub all : (last : List ℕ) (n : ℕ) → Wrote text next left last n → Wrote first at whole last n
-
-pub text-begun : (whole text : List ℕ) (at : ℕ) → at ≤ length text → TextLeft whole text at whole text at
-text-begun whole text at h = record { inside = h; all = λ last n wrote. wrote }
-
-pub text-next : {whole first left t rest text text' : List ℕ} {at next next' : ℕ} → left ≡ t ++ rest → TextLeft whole first at left text next → Wrote text next t text' next'
-    → TextLeft whole first at rest text' next'
-text-next {whole} {first} {left} {t} {rest} {text} {text'} {at} {next} {next'} e l wrote = record {
-  inside = wrote-inside wrote;
-  all = λ last n more. l.all last n (subst (λ (u : List ℕ). Wrote text next u last n) (sym e) (wrote-more wrote more));
-}
-
-pub text-done : {whole first left text : List ℕ} {at next : ℕ} → left ≡ [] → TextLeft whole first at left text next → Wrote first at whole text next
-text-done {whole} {first} {left} {text} {at} {next} e l =
-    l.all text next (subst (λ (u : List ℕ). Wrote text next u text next) (sym e) (wrote_none text next next (omega (arith, l.inside))))
+-- the same of what a writer's methods do, for answers by hand
+pub puts_more : {t u : List ℕ} {w w' w'' : Writer} → Puts t w w' → Puts u w' w'' → Puts (t ++ u) w w''
+puts_more p q = record { same = q.same ∙ p.same; wrote = wrote-more p.wrote q.wrote }

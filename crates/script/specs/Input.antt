@@ -1,7 +1,7 @@
 -- Input as lines, and what a part of it has of a line.
 -- Assumes nothing.
-use Rattle.std.specs.Prelude.{cond, List, [], ◌∷◌, ℕ, eqb}
-use Rattle.script.specs.Text.{newline, before, part}
+use Rattle.std.specs.Prelude.{cond, List, [], ◌∷◌, ℕ, eqb, take}
+use Rattle.script.specs.Text.{newline, before}
 
 -- a byte in front of the first line
 abbrev pub in_front : ℕ → List (List ℕ) → List (List ℕ)
@@ -13,6 +13,6 @@ unfoldable pub lines : List ℕ → List (List ℕ)
 lines [] = []
 lines (b ∷ s) = cond (eqb b newline) ([] ∷ lines s) (in_front b (lines s))
 
--- what a chunk has of a line from place `at` on: up to a newline or the chunk's end, and no more than there is room for
-unfoldable pub piece : List ℕ → ℕ → ℕ → List ℕ
-piece chunk at room = before newline (part at room chunk)
+-- what a chunk has of a line: up to a newline or the chunk's end, and no more than there is room for
+unfoldable pub piece : List ℕ → ℕ → List ℕ
+piece chunk room = before newline (take room chunk)

@@ -1,5 +1,6 @@
 -- Crate `script`: its definitions.
 pub mod Text
+pub mod Writing
 pub mod Number
 pub mod Hex
 pub mod Line

@@ -1,11 +1,11 @@
 -- A script line: what it may say, how it is written, and how it is read. Document 01's "Script program".
 -- Assumes nothing.
-use Rattle.std.specs.Prelude.{◌≡◌, Bool, cond, ◌&&◌, List, [], ◌∷◌, ◌++◌, ℕ, ◌+◌, ◌*◌, ◌/◌, ◌%◌, ◌≤◌, ◌<◌, eqb, leb, length, get_or}
+use Rattle.std.specs.Prelude.{◌≡◌, Bool, cond, ◌&&◌, List, [], ◌∷◌, ◌++◌, ℕ, ◌+◌, ◌*◌, ◌/◌, ◌%◌, ◌≤◌, ◌<◌, eqb, leb, length, get_or, Option, Some, None, option_map, option_and_then}
 use Rattle.checks.specs.Equality.{same}
 use Rattle.script.specs.declared.line.Verb.{Verb}
 use Rattle.script.specs.declared.line.Verb.TheVariants.{Open, Feed, Draw, Check, Close, Sum}
 use Rattle.script.specs.Text.{text, space, dash, before, after}
-use Rattle.script.specs.Number.{Reading, found, malformed, most_number, number_of, decimal}
+use Rattle.script.specs.Number.{most_number, number_of, decimal}
 use Rattle.script.specs.Hex.{hex_pairs, decoded, hex_of, bytes_text}
 
 -- ---- limits
@@ -85,14 +85,14 @@ render l = name l.verb ++ space ∷ (decimal l.number ++ space ∷ field_text l.
 
 -- ---- how it is read
 
-unfoldable pub verb_of : List ℕ → Reading Verb
+unfoldable pub verb_of : List ℕ → Option Verb
 verb_of s =
-    cond (same s (name Open)) (found Open)
-    (cond (same s (name Feed)) (found Feed)
-    (cond (same s (name Draw)) (found Draw)
-    (cond (same s (name Check)) (found Check)
-    (cond (same s (name Close)) (found Close)
-    (cond (same s (name Sum)) (found Sum) malformed)))))
+    cond (same s (name Open)) (Some Open)
+    (cond (same s (name Feed)) (Some Feed)
+    (cond (same s (name Draw)) (Some Draw)
+    (cond (same s (name Check)) (Some Check)
+    (cond (same s (name Close)) (Some Close)
+    (cond (same s (name Sum)) (Some Sum) None)))))
 
 unfoldable pub is_dash : List ℕ → Bool
 is_dash s = same s (dash ∷ [])
@@ -101,11 +101,11 @@ is_dash s = same s (dash ∷ [])
 unfoldable pub is_hex : List ℕ → Bool
 is_hex s = leb 1 (length s) && (leb (length s) (2 * most_bytes) && hex_pairs s)
 
-unfoldable pub bytes_of : List ℕ → Reading Field
-bytes_of s = cond (is_dash s) (found (bytes [])) (cond (is_hex s) (found (bytes (decoded s))) malformed)
+unfoldable pub bytes_of : List ℕ → Option Field
+bytes_of s = cond (is_dash s) (Some (bytes [])) (cond (is_hex s) (Some (bytes (decoded s))) None)
 
-unfoldable pub no_bytes_of : List ℕ → Reading Field
-no_bytes_of s = cond (is_dash s) (found (bytes [])) malformed
+unfoldable pub no_bytes_of : List ℕ → Option Field
+no_bytes_of s = cond (is_dash s) (Some (bytes [])) None
 
 -- the number that four digits spell
 unfoldable pub count_value : List ℕ → ℕ
@@ -114,33 +114,27 @@ count_value s = get_or (decoded s) 0 0 * 256 + get_or (decoded s) 1 0
 unfoldable pub is_count : List ℕ → Bool
 is_count s = eqb (length s) 4 && (hex_pairs s && leb (count_value s) most_count)
 
-unfoldable pub count_of : List ℕ → Reading Field
-count_of s = cond (is_count s) (found (count (count_value s))) malformed
+unfoldable pub count_of : List ℕ → Option Field
+count_of s = cond (is_count s) (Some (count (count_value s))) None
 
-unfoldable pub field_of : Verb → ℕ → List ℕ → Reading Field
+unfoldable pub field_of : Verb → ℕ → List ℕ → Option Field
 field_of Open n s = bytes_of s
 field_of Feed n s = bytes_of s
 field_of Draw n s = count_of s
 field_of Check n s = bytes_of s
 field_of Close n s = no_bytes_of s
-field_of Sum n s = cond (eqb n 0) (no_bytes_of s) malformed
+field_of Sum n s = cond (eqb n 0) (no_bytes_of s) None
 
-abbrev pub with_field : Verb → ℕ → Reading Field → Reading Line
-with_field v n (found f) = found (record { verb = v; number = n; field = f })
-with_field v n malformed = malformed
-
-abbrev pub with_number : Verb → Reading ℕ → List ℕ → Reading Line
-with_number v (found n) s = with_field v n (field_of v n s)
-with_number v malformed s = malformed
-
-abbrev pub with_verb : Reading Verb → Reading ℕ → List ℕ → Reading Line
-with_verb (found v) n s = with_number v n s
-with_verb malformed n s = malformed
+abbrev pub with_field : Verb → ℕ → Option Field → Option Line
+with_field v n field = option_map (λ f. record { verb = v; number = n; field = f }) field
 
 -- the fields are what stands before the first space, between it and the second, and after that. A missing space leaves an empty field, and none of the three may be
 -- empty; a third space stands in the third field, which has none
-unfoldable pub fields : List ℕ → Reading Line
-fields s = with_verb (verb_of (before space s)) (number_of (before space (after space s))) (after space (after space s))
+unfoldable pub fields : List ℕ → Option Line
+fields s =
+    option_and_then
+    (λ v. option_and_then (λ n. with_field v n (field_of v n (after space (after space s)))) (number_of (before space (after space s))))
+    (verb_of (before space s))
 
-unfoldable pub parse : List ℕ → Reading Line
-parse s = cond (leb (length s) longest_line) (fields s) malformed
+unfoldable pub parse : List ℕ → Option Line
+parse s = cond (leb (length s) longest_line) (fields s) None

@@ -1,12 +1,7 @@
 -- Decimal numbers, written and read: no leading zero, 0 itself as `0`, at most 4,294,967,295.
 -- Assumes nothing.
-use Rattle.std.specs.Prelude.{Bool, true, false, cond, ◌&&◌, not, List, [], ◌∷◌, ℕ, zero, suc, ◌+◌, ◌-◌, ◌*◌, ◌/◌, ◌%◌, eqb, leb, ltb}
+use Rattle.std.specs.Prelude.{Bool, true, false, cond, ◌&&◌, not, List, [], ◌∷◌, ℕ, zero, suc, ◌+◌, ◌-◌, ◌*◌, ◌/◌, ◌%◌, eqb, leb, ltb, Option, Some, None}
 use Prim.Native.Char.{code}
-
--- what reading a text gives: what it says, or that it breaks a rule
-pub data Reading (A : Type 0) : Type 0 where
-  found : A → Reading A
-  malformed : Reading A
 
 abbrev pub most_number : ℕ
 most_number = 4294967295
@@ -34,8 +29,8 @@ value_from v (b ∷ s) = value_from (v * 10 + (b - code "0")) s
 unfoldable pub is_number : List ℕ → Bool
 is_number s = plain_start s && (all_digits s && leb (value_from 0 s) most_number)
 
-unfoldable pub number_of : List ℕ → Reading ℕ
-number_of s = cond (is_number s) (found (value_from 0 s)) malformed
+unfoldable pub number_of : List ℕ → Option ℕ
+number_of s = cond (is_number s) (Some (value_from 0 s)) None
 
 -- ---- writing
 

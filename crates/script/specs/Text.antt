@@ -33,8 +33,15 @@ after b (a ∷ s) = cond (eqb a b) s (after b s)
 abbrev pub part : ℕ → ℕ → List ℕ → List ℕ
 part at most s = take most (drop at s)
 
--- A text was written into a buffer: `last` is the buffer `first` with the text from place `at` on, and `next` the place after it. What does not fit is left out, and
--- `next` is then the buffer's end. (`sets` stores one byte after the other, and a store past the end does nothing.)
+-- a buffer with a text from place `at` on. What does not fit is left out. (`sets` stores one byte after the other, and a store past the end does nothing.)
+unfoldable pub put : List ℕ → List ℕ → ℕ → List ℕ
+put written buffer at = sets buffer at written
+
+-- the place behind the text: the buffer's end where the text does not fit
+unfoldable pub past : List ℕ → List ℕ → ℕ → ℕ
+past written buffer at = min (at + length written) (length buffer)
+
+-- A text was written into a buffer: `last` is the buffer `first` with the text from place `at` on, and `next` the place after it.
 pub record Wrote (first : List ℕ) (at : ℕ) (written last : List ℕ) (next : ℕ) : Type 0 where
-  pub bytes : last ≡ sets first at written
-  pub place : next ≡ min (at + length written) (length first)
+  pub bytes : last ≡ put written first at
+  pub place : next ≡ past written first at

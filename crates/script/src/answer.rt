@@ -1,13 +1,11 @@
 // Writing an answer line.
 ghost use Rattle.script.specs.Answer as spec;
-ghost use Rattle.script.specs.Text.{Wrote};
+ghost use Rattle.script.specs.Writing.{Puts};
 
-use crate::hex::put_field;
-use crate::number::put_decimal;
-use crate::text::{put_byte, put_bytes};
+use crate::writer::Writer;
 
 // The first field of an answer.
-#[derive(Clone, Copy)]
+#[derive(Clone, Copy, Debug, PartialEq, Eq)]
 pub enum Word {
     Ok,
     Pass,
@@ -16,25 +14,28 @@ pub enum Word {
     Stop,
 }
 
-fn put_word(out: &mut [u8], at: usize, word: Word) -> usize
-    ensures { Wrote out.old at (spec.word_text word) out.new result }
-{
-    match word {
-        Word::Ok => put_bytes(out, at, b"ok"),
-        Word::Pass => put_bytes(out, at, b"pass"),
-        Word::Fail => put_bytes(out, at, b"fail"),
-        Word::No => put_bytes(out, at, b"no"),
-        Word::Stop => put_bytes(out, at, b"stop"),
+impl Writer<'_> {
+    fn put_word(&mut self, word: Word)
+        ensures { Puts (spec.word_text word) self.old self.new }
+    {
+        match word {
+            Word::Ok => self.put_bytes(b"ok"),
+            Word::Pass => self.put_bytes(b"pass"),
+            Word::Fail => self.put_bytes(b"fail"),
+            Word::No => self.put_bytes(b"no"),
+            Word::Stop => self.put_bytes(b"stop"),
+        }
     }
-}
 
-pub fn write_answer(out: &mut [u8], at: usize, word: Word, number: u64, bytes: &[u8]) -> usize
-    ensures { Wrote out.old at (spec.answer_line word number bytes.now) out.new result }
-{
-    let after_word = put_word(out, at, word);
-    let number_at = put_byte(out, after_word, b' ');
-    let after_number = put_decimal(out, number_at, number);
-    let field_at = put_byte(out, after_number, b' ');
-    let after_field = put_field(out, field_at, bytes);
-    put_byte(out, after_field, b'\n')
+    #[tactic(auto, using(crate::proofs::Texts::parts), unfolding(crate::specs::Answer::answer_line))]
+    pub fn put_answer(&mut self, word: Word, number: u64, bytes: &[u8])
+        ensures { Puts (spec.answer_line word number bytes.now) self.old self.new }
+    {
+        self.put_word(word);
+        self.put_byte(b' ');
+        self.put_decimal(number);
+        self.put_byte(b' ');
+        self.put_field(bytes);
+        self.put_byte(b'\n');
+    }
 }

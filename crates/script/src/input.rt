@@ -3,23 +3,22 @@ ghost use Rattle.std.specs.Prelude.{◌≡◌, ◌-◌, length};
 ghost use Rattle.std.proofs.lemmas.List.Edits.{sets};
 ghost use Rattle.script.specs.Input.{piece};
 
-use crate::text::{before, part, put_bytes};
+use crate::text::cut;
+use crate::writer::Writer;
 
-fn room(line: &[u8], held: usize) -> usize
-    ensures { result ≡ length line.now - held }
+// Puts what the chunk has of a line behind the bytes that the line holds already. Answers how many bytes that are. A buffer and a place, and no reader of both: it cuts
+// a chunk into any lent line, and this crate knows no session.
+#[tactic(auto, unfolding(crate::specs::Text::put, crate::specs::Input::piece))]
+pub fn take_line(chunk: &[u8], line: &mut [u8], held: usize) -> usize
+    ensures count { result ≡ length (piece chunk.now (length line.old - held)) }
+    ensures line { line.new ≡ sets line.old held (piece chunk.now (length line.old - held)) }
 {
-    if line.len() < held {
-        return 0;
+    let room = line.len().saturating_sub(held);
+    let (taken, _) = cut(&chunk[..room.min(chunk.len())], b'\n');
+    Writer {
+        out: line,
+        at: held,
     }
-    line.len() - held
-}
-
-// Puts what the chunk has of a line, from at on, behind the bytes that the line holds already. Answers how many bytes that are.
-pub fn take_line(chunk: &[u8], at: usize, line: &mut [u8], held: usize) -> usize
-    ensures count { result ≡ length (piece chunk.now at (length line.old - held)) }
-    ensures line { line.new ≡ sets line.old held (piece chunk.now at (length line.old - held)) }
-{
-    let taken = before(part(chunk, at, room(line, held)), b'\n');
-    put_bytes(line, held, taken);
+    .put_bytes(taken);
     taken.len()
 }

@@ -7,10 +7,10 @@ mod input;
 mod line;
 mod number;
 mod text;
+mod writer;
 
-pub use answer::{Word, write_answer};
-pub use hex::{put_field, put_hex};
+pub use answer::Word;
 pub use input::take_line;
-pub use line::{Parsed, Verb, parse_line};
-pub use number::put_decimal;
-pub use text::{part, place_in, put_byte, put_bytes, same};
+pub use line::{LONGEST_LINE, MOST_BYTES, Parsed, Verb, parse_line};
+pub use text::part;
+pub use writer::Writer;

@@ -1,62 +1,45 @@
 // Decimal numbers.
 ghost use Rattle.std.specs.Prelude.{◌≡◌};
 ghost use Rattle.script.specs.Number as spec;
-ghost use Rattle.script.specs.Text.{Wrote};
-ghost use Rattle.script.specs.Parsed.{number_in};
+ghost use Rattle.script.specs.Writing.{Puts};
 
-use crate::text::put_byte;
-
-// A field read as a number.
-#[derive(Clone, Copy)]
-pub enum Number {
-    Value(u32),
-    NoNumber,
-}
+use crate::writer::Writer;
 
 // Not empty, and no zero in front of other digits.
+#[tactic(auto, unfolding(crate::specs::Number::plain_start))]
 fn plain_start(s: &[u8]) -> bool
     ensures { result ≡ spec.plain_start s.now }
 {
-    if s.len() == 0 {
-        return false;
-    }
-    if s.len() == 1 {
-        return true;
-    }
-    s[0] != b'0'
+    !matches!(s, [] | [b'0', _, ..])
 }
 
-pub(crate) fn number_of(s: &[u8]) -> Number
-    ensures { number_in result ≡ spec.number_of s.now }
+// A field as a number. (The library's `parse` takes a plus sign, and zeros in front.)
+#[tactic(auto, using(crate::proofs::Numbers::read))]
+pub(crate) fn number_of(s: &[u8]) -> Option<u32>
+    ensures { result ≡ spec.number_of s.now }
 {
     if !plain_start(s) {
-        return Number::NoNumber;
+        return None;
     }
-    let mut value: u64 = 0;
-    let mut i = 0;
-    while i < s.len() {
-        let b = s[i];
-        if b < b'0' {
-            return Number::NoNumber;
+    let mut value = 0u32;
+    for b in s {
+        if !b.is_ascii_digit() {
+            return None;
         }
-        if b'9' < b {
-            return Number::NoNumber;
-        }
-        value = value * 10 + (b - b'0') as u64;
-        if 4_294_967_295 < value {
-            return Number::NoNumber;
-        }
-        i += 1;
+        value = value.checked_mul(10)?.checked_add(u32::from(b - b'0'))?;
     }
-    Number::Value(value as u32)
+    Some(value)
 }
 
-pub fn put_decimal(out: &mut [u8], at: usize, n: u64) -> usize
-    ensures { Wrote out.old at (spec.decimal n) out.new result }
-{
-    if n < 10 {
-        return put_byte(out, at, b'0' + n as u8);
+impl Writer<'_> {
+    // A number's digits. (The library's formatter fails where the buffer is full; this cuts there.)
+    #[tactic(auto, using(crate::proofs::Texts::parts, crate::proofs::Numbers::digits))]
+    pub fn put_decimal(&mut self, n: u64)
+        ensures { Puts (spec.decimal n) self.old self.new }
+    {
+        if 10 <= n {
+            self.put_decimal(n / 10);
+        }
+        self.put_byte(b'0' + (n % 10) as u8);
     }
-    let next = put_decimal(out, at, n / 10);
-    put_byte(out, next, b'0' + (n % 10) as u8)
 }

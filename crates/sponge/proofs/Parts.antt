@@ -1,12 +1,13 @@
 -- A part of a block that is fed or drawn at once does what its bytes do one by one. Any row with rates above 0.
 -- Assumes nothing.
-use Rattle.std.proofs.Common.{◌≡◌, ℕ, zero, suc, ◌+◌, ◌-◌, ◌%◌, ◌<◌, ◌≤◌, min, Bool, true, false, not, eqb, ◌≢◌, List, [], ◌∷◌, ◌++◌, length, take, drop, sym, refl, ap, ◌∙◌, ap₂, append_assoc, add-zero, mod-lt, mod-eq_of_lt, add-one, arith, length-append, length-drop, take-append-drop, length-take-le, take_all, drop-drop, take_at, eq-eqb, ne_eqb}
+use Rattle.std.proofs.Common.{◌≡◌, ℕ, zero, suc, ◌+◌, ◌-◌, ◌%◌, ◌<◌, ◌≤◌, min, Bool, true, false, not, eqb, ◌≢◌, List, [], ◌∷◌, ◌++◌, length, take, drop, sym, refl, ap, ◌∙◌, ap₂, append_assoc, add-zero, mod-lt, mod-eq_of_lt, add-one, arith, length-append, length-drop, length-take-le, take_all, take_at, eq-eqb, ne_eqb}
 use mathlib.Core.Bool.{and-false}
 use native.Mathlib.Nat.{suc-mod, zero-mod, add-mod_right}
 use native.Mathlib.Decide.{dec_lt, ℕ_discrete}
 use Rattle.word.specs.Bytes.{bytes_from, byte_at, xor_from}
 use Rattle.word.proofs.Bytes.{length-bytes_from}
 use Rattle.sponge.specs.declared.record.Record.{Record}
+use Rattle.mode.specs.declared.Mode.{Mode}
 use Rattle.mode.specs.Mode.{Row, row}
 use Rattle.sponge.specs.Record.{sum64, with_core, with_fed, after_run, run_if, in_words, feed_bytes, absorbed, ready, drawn_bytes, after_drawing}
 use Rattle.sponge.specs.Parts.{filled, after_feed, used}
@@ -55,30 +56,51 @@ absorbed-few (b ∷ bs) r p e l =
 
 -- a record with what feeding reads of r, and nothing of its other fields
 abbrev pub bare : Record → Record
-bare r = record { words = r.words; runs = r.runs; ticket = 0; mode = r.mode; fed = r.fed; drawn = 0; feeding = true }
+bare r = record { words = r.words; runs = r.runs; ticket = 0; mode = r.mode; fed = r.fed; drawn = 0; feeding = false }
 
 -- the words and the runs are those of that record after the same feed
 pub absorbed-bare : (bs : List ℕ) (r : Record) → absorbed bs r ≡ after_feed (absorbed bs (bare r)).words (absorbed bs (bare r)).runs (length bs) r
 unfolding absorbed after_feed
 absorbed-bare bs r = ap (with_fed (sum64 r.fed (length bs))) (feed_bytes_core (row r.mode) bs r.fed (bare r) r)
 
--- the next k bytes of a list, which stay in the block of number n, and then what is left of it
-pub feed-next : (w : Row) (bs : List ℕ) (n i k p : ℕ) (r : Record) → (n + i) % w.feed_rate ≡ p → p + k ≤ w.feed_rate → 0 < k → i + k ≤ length bs
-    → feed_bytes w (n + (i + k)) (drop (i + k) bs) (filled w p (take k (drop i bs)) r) ≡ feed_bytes w (n + i) (drop i bs) r
-feed-next w bs n i k p r e h some l =
-    sym (ap (λ (t : List ℕ). feed_bytes w (n + i) t r) (sym (take-append-drop k (drop i bs)) ∙ ap (λ (t : List ℕ). take k (drop i bs) ++ t) (drop-drop k i bs))
-    ∙ feed_bytes_append w (take k (drop i bs)) (drop (i + k) bs) (n + i) r
-    ∙ ap₂ (λ (m : ℕ) (x : Record). feed_bytes w m (drop (i + k) bs) x) number (go (take k (drop i bs)) count))
+-- Some bytes of a feed are left, once those before them are absorbed: fed to the record as it is, they give what all of them give to the first record, and the next of
+-- them goes to the place p.
+pub record Feeding (w : Row) (all : Record) (mode : Mode) (p : ℕ) (left : List ℕ) (current : Record) : Type 0 where
+  pub number : ℕ
+  pub next : 0 < length left → number % w.feed_rate ≡ p
+  pub same : feed_bytes w number left current ≡ all
+  pub kept : current.mode ≡ mode
+
+-- bytes that stay in the block, or none, are absorbed
+feed_block : (w : Row) (bs : List ℕ) (n p : ℕ) (r : Record) → (0 < length bs → n % w.feed_rate ≡ p) → p < w.feed_rate → p + length bs ≤ w.feed_rate
+    → feed_bytes w n bs r ≡ filled w p bs r
+unfolding feed_bytes filled run_if in_words xor_from
+feed_block w [] n p r e short h = rw (ne_eqb (p + 0) w.feed_rate (λ z. omega arith))
+feed_block w (b ∷ bs) n p r e short h = feed-filled w bs b n p r (e (omega arith)) h
+
+-- the next of them, as many as fit into the block
+pub feeding-next : (w : Row) (all : Record) (mode : Mode) (p : ℕ) (part left : List ℕ) (current : Record) → p < w.feed_rate
+    → Feeding w all mode p (part ++ left) current → length part ≡ min (w.feed_rate - p) (length (part ++ left))
+    → Feeding w all mode 0 left (filled w p part current)
+feeding-next w all mode p part left current short before least = record {
+  number = before.number + length part;
+  next = λ more.
+      let full : before.number + length part ≡ before.number + (w.feed_rate - before.number % w.feed_rate) = omega (arith, sum, least, before.next (omega (arith, sum, more))) in
+      rw full (block-end w.feed_rate (omega arith) before.number);
+  same = ap (feed_bytes w (before.number + length part) left) (sym (feed_block w part before.number p current (λ some. before.next (omega (arith, sum))) short (omega arith)))
+      ∙ sym (feed_bytes_append w part left before.number current) ∙ before.same;
+  kept = filled-mode w p part current ∙ before.kept;
+}
   where
-    count : length (take k (drop i bs)) ≡ k
-    count = length-take-le k (drop i bs) (omega (arith, length-drop i bs))
+    sum : length (part ++ left) ≡ length part + length left
+    sum = length-append part left
 
-    number : n + i + length (take k (drop i bs)) ≡ n + (i + k)
-    number = omega (arith, count)
-
-    go : (part : List ℕ) → length part ≡ k → feed_bytes w (n + i) part r ≡ filled w p part r
-    go [] c = absurd (omega arith)
-    go (x ∷ part) c = feed-filled w part x (n + i) p r e (omega arith)
+-- none is left
+pub feeding-last : (w : Row) (all : Record) (mode : Mode) (p : ℕ) (left : List ℕ) (current : Record) → Feeding w all mode p left current → length left ≡ 0
+    → current ≡ all
+unfolding feed_bytes
+feeding-last w all mode p [] current last e = last.same
+feeding-last w all mode p (b ∷ left) current last e = absurd (let f : ⊥ = omega arith in f)
 
 -- ---- drawing
 

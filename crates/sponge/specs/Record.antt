@@ -16,23 +16,19 @@ use Rattle.sponge.specs.Sponge.{initial, flip_if}
 unfoldable pub sum64 : ℕ → ℕ → ℕ
 sum64 a b = (a + b) % 2 ^ 64
 
--- ---- a record with other fields: with `vacant` and `fresh`, the only places that name them all
+-- ---- a record with other fields
 
 abbrev pub with_core : List ℕ → ℕ → Record → Record
-with_core words runs r =
-    record { words = words; runs = runs; ticket = r.ticket; mode = r.mode; fed = r.fed; drawn = r.drawn; feeding = r.feeding }
+with_core words runs r = record r { words = words; runs = runs }
 
 abbrev pub with_fed : ℕ → Record → Record
-with_fed fed r =
-    record { words = r.words; runs = r.runs; ticket = r.ticket; mode = r.mode; fed = fed; drawn = r.drawn; feeding = r.feeding }
+with_fed fed r = record r { fed = fed }
 
 abbrev pub with_drawn : ℕ → Record → Record
-with_drawn drawn r =
-    record { words = r.words; runs = r.runs; ticket = r.ticket; mode = r.mode; fed = r.fed; drawn = drawn; feeding = r.feeding }
+with_drawn drawn r = record r { drawn = drawn }
 
 abbrev pub with_feeding : Bool → Record → Record
-with_feeding feeding r =
-    record { words = r.words; runs = r.runs; ticket = r.ticket; mode = r.mode; fed = r.fed; drawn = r.drawn; feeding = feeding }
+with_feeding feeding r = record r { feeding = feeding }
 
 -- f of the words
 unfoldable pub in_words : (List ℕ → List ℕ) → Record → Record

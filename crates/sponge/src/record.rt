@@ -21,17 +21,18 @@ pub struct Record {
     // the ticket's number; 0 in a place that no ticket has
     ticket: u32,
     mode: Mode,
-    // whether feeding lasts
+    // Whether feeding lasts. A field, and no enum with a record for each half: document 01 lists one record, whose other fields all count in both.
     feeding: bool,
 }
 
 impl Record {
     // A place that no ticket has. Nothing of a state is in it.
+    #[tactic(auto, unfolding(crate::specs::Record::vacant))]
     pub fn vacant() -> Record
         ensures { result ≡ spec.vacant }
     {
         Record {
-            words: [0u64; 5],
+            words: [0; 5],
             runs: 0,
             fed: 0,
             drawn: 0,
@@ -46,42 +47,32 @@ impl Record {
     pub fn fresh(ticket: u32, mode: Mode, key: &[u8]) -> Record
         ensures { result ≡ spec.fresh ticket mode key.now }
     {
-        let length = state::shorter(mode.key_length(), key.len());
-        let used = &key[..length];
-        let initial = [
-            mode.start_word(),
-            state::word_of_bytes(used, 0),
-            state::word_of_bytes(used, 1),
-            0,
-            0,
-        ];
-        let before = Record {
-            words: initial,
-            runs: 0,
-            fed: 0,
-            drawn: 0,
-            ticket: ticket,
-            mode: mode,
+        let used = &key[..mode.key_length().min(key.len())];
+        let initial = Record {
+            words: [
+                mode.start_word(),
+                state::word_of_bytes(used, 0),
+                state::word_of_bytes(used, 1),
+                0,
+                0,
+            ],
+            ticket,
+            mode,
             feeding: true,
+            ..Record::vacant()
         };
-        before.run(Mode::OUTER_ROUNDS)
+        initial.run(Mode::OUTER_ROUNDS)
     }
 
     // A run of so many rounds: the words after it, and the count one higher. Nothing else raises the count.
+    #[tactic(auto, unfolding(crate::specs::Record::after_run, crate::specs::Record::sum64))]
     fn run(self, rounds: u64) -> Record
         ensures { result ≡ spec.after_run rounds self }
     {
-        let mode = self.mode;
-        let before = self.words;
-        let after = permutation::permute(before, rounds);
         Record {
-            words: after,
-            runs: std::num::wrapping_add_u64(self.runs, 1),
-            ticket: self.ticket,
-            mode: mode,
-            fed: self.fed,
-            drawn: self.drawn,
-            feeding: self.feeding,
+            words: permutation::permute(self.words, rounds),
+            runs: self.runs.wrapping_add(1),
+            ..self
         }
     }
 
@@ -100,8 +91,7 @@ impl Record {
     pub fn mode(self) -> Mode
         ensures { result ≡ self.mode }
     {
-        let mode = self.mode;
-        mode
+        self.mode
     }
 
     pub fn fed(self) -> u64

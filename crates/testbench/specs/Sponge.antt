@@ -1,10 +1,9 @@
 -- What the sponge answers to C.
 -- Assumes nothing.
-use Rattle.std.specs.Prelude.{cond, List, [], ◌∷◌, ℕ, ◌-◌, min, length, take, drop}
+use Rattle.std.specs.Prelude.{cond, Option, Some, None, List, [], ◌∷◌, ℕ, ◌-◌, min, length, take, drop}
 use Rattle.checks.specs.Equality.{same}
+use Rattle.mode.specs.declared.Mode.{Mode}
 use Rattle.mode.specs.declared.Mode.TheVariants.{Mac}
-use Rattle.mode.specs.declared.Named.{Named}
-use Rattle.mode.specs.declared.Named.TheVariants.{Is, NoMode}
 use Rattle.mode.specs.Mode.{row}
 use Rattle.sponge.specs.Sponge.{one_shot, runs_ended}
 
@@ -17,14 +16,14 @@ abbrev pub counts_at : ℕ → ℕ → List ℕ
 counts_at first n = min first n ∷ (n - min first n) ∷ []
 
 -- the runs for n bytes fed and d drawn: document 01's formula
-abbrev pub sponge_runs : Named → ℕ → ℕ → ℕ
-sponge_runs (Is mode) n d = runs_ended (row mode) 1 n d
-sponge_runs NoMode n d = 0
+abbrev pub sponge_runs : Option Mode → ℕ → ℕ → ℕ
+sponge_runs (Some mode) n d = runs_ended (row mode) 1 n d
+sponge_runs None n d = 0
 
 -- what is written: the one-shot output, as much as is lent
-abbrev pub sponge_out : Named → List ℕ → List ℕ → List ℕ → List ℕ
-sponge_out (Is mode) key message out = one_shot (row mode) key message (length out)
-sponge_out NoMode key message out = out
+abbrev pub sponge_out : Option Mode → List ℕ → List ℕ → List ℕ → List ℕ
+sponge_out (Some mode) key message out = one_shot (row mode) key message (length out)
+sponge_out None key message out = out
 
 -- 1 for a tag that is the MAC with tags of so many bytes, or, where they are more than sixteen, its first sixteen
 abbrev pub tag_answer : List ℕ → List ℕ → ℕ → List ℕ → ℕ

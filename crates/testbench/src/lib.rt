@@ -1,8 +1,6 @@
 // The permutation, the sponge and feeds through the hub, and the runs that frames report, as C calls them: for the test bench of document 01, the benchmarks under
-// bench/ and the tests under tests/.
+// bench/ and the tests under tests/. C gets numbers: runs, an answer's number, 1 for a tag that passes.
 #![tactic(auto)]
-
-mod feeds;
 
 ghost use Rattle.std.specs.Prelude.{◌≡◌, [], ◌∷◌, length};
 ghost use Rattle.permutation.specs.Permutation.{at, permute};
@@ -13,7 +11,9 @@ ghost use Rattle.testbench.specs.Chain.{repeated};
 ghost use Rattle.sponge.specs.Streaming.{absorbed_parts, next_parts, squeezed_parts};
 ghost use Rattle.testbench.specs.Sponge.{parts_at, counts_at, sponge_runs, sponge_out, tag_answer};
 
-use mode::{Mode, Named};
+mod feeds;
+
+use mode::Mode;
 use sponge::Record;
 
 // One permutation of a lent row: 0, or 7 for a row that is not of five words, which stays as it is.
@@ -22,7 +22,7 @@ pub extern "C" fn testbench_permute_row(row: &mut [u64]) -> u32
     ensures answer { result ≡ row_answer row.old }
     ensures after { row.new ≡ row_after (permute 12) row.old }
 {
-    permutation::permute_row(row)
+    checks::number_of(permutation::permute_row(row))
 }
 
 // x0 after the state x0, 0, 0, 0, 0 was permuted `times` times, by `rounds` rounds each. The state stays a value all the while: the cost is the permutation's own.
@@ -32,29 +32,29 @@ pub extern "C" fn testbench_permute_chain(x0: u64, rounds: u64, times: u64) -> u
 {
     let mut s = [x0, 0, 0, 0, 0];
     for _ in 0..times {
-        let t = permutation::permute(s, rounds);
-        s = t;
+        s = permutation::permute(s, rounds);
     }
     s[0]
 }
 
 // A message is fed in two parts. A cut past its end is one at its end.
+#[tactic(auto, unfolding(sponge::specs::Streaming::absorbed_parts))]
 fn absorb_in_two(s: Record, message: &[u8], cut: usize) -> Record
     ensures { result ≡ absorbed_parts (parts_at cut message.now) s }
 {
-    let middle = state::shorter(cut, message.len());
-    let begun = s.absorb(&message[..middle]);
-    begun.absorb(&message[middle..])
+    let (begin, end) = message.split_at(cut.min(message.len()));
+    s.absorb(begin).absorb(end)
 }
 
-// Output is drawn in two parts, the first of so many bytes, or of all.
+// Output is drawn in two parts, the first of so many bytes, or of all. No one function with `absorb_in_two`: what is read is split there, what is written here, and
+// each is two calls.
+#[tactic(auto, unfolding(sponge::specs::Streaming::squeezed_parts, sponge::specs::Streaming::next_parts))]
 fn squeeze_in_two(s: Record, out: &mut [u8], first: usize) -> Record
     ensures after { result ≡ squeezed_parts (counts_at first (length out.old)) s }
     ensures written { out.new ≡ next_parts (counts_at first (length out.old)) s }
 {
-    let middle = state::shorter(first, out.len());
-    let begun = s.squeeze(&mut out[..middle]);
-    begun.squeeze(&mut out[middle..])
+    let (begin, end) = out.split_at_mut(first.min(out.len()));
+    s.squeeze(begin).squeeze(end)
 }
 
 // The output of a mode for a message, as much as is lent, with no limit; the answer is how many runs were made. The message is fed and the output drawn in two
@@ -73,7 +73,7 @@ pub extern "C" fn testbench_sponge(
     ensures answer { result ≡ sponge_runs (named mode tag_length) (length message.now) (length out.old) }
     ensures after { out.new ≡ sponge_out (named mode tag_length) key.now message.now out.old }
 {
-    let Named::Is(known) = Mode::of_number(mode, tag_length) else {
+    let Some(known) = Mode::of_number(mode, tag_length) else {
         return 0;
     };
     let fresh = Record::fresh(1, known, key);
@@ -89,13 +89,8 @@ pub extern "C" fn testbench_sponge(
 pub extern "C" fn testbench_tag(key: &[u8], message: &[u8], tag: &[u8], tag_length: u8) -> u32
     ensures { result ≡ tag_answer key.now message.now tag_length tag.now }
 {
-    let fresh = Record::fresh(1, Mode::Mac(tag_length), key);
-    let fed = fresh.absorb(message);
-    let ended = fed.finish();
-    if ended.tag_matches(tag) {
-        return 1;
-    }
-    0
+    let fed = Record::fresh(1, Mode::Mac(tag_length), key).absorb(message);
+    u32::from(fed.finish().tag_matches(tag))
 }
 
 // Seals a frame, and gives the runs that sealing reports, which the functions of crate firmware do not tell; 0 where it is refused.
@@ -104,8 +99,7 @@ pub extern "C" fn testbench_seal_runs(key: &[u8], frame: &mut [u8], body: usize)
     ensures answer { result ≡ (seal_answer key.now frame.old body).runs }
     ensures after { frame.new ≡ seal_after key.now frame.old body }
 {
-    let sealed = frame::seal(key, frame, body);
-    sealed.runs
+    frame::seal(key, frame, body).unwrap_or(0)
 }
 
 // Judges a frame, and gives the runs that judging reports; 0 where it is refused.
@@ -113,6 +107,5 @@ pub extern "C" fn testbench_seal_runs(key: &[u8], frame: &mut [u8], body: usize)
 pub extern "C" fn testbench_verify_runs(key: &[u8], frame: &[u8], body: usize) -> u64
     ensures { result ≡ (verify_answer key.now frame.now body).runs }
 {
-    let judged = frame::verify(key, frame, body);
-    judged.runs
+    frame::verify(key, frame, body).map_or(0, |verdict| verdict.runs)
 }

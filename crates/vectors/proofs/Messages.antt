@@ -1,49 +1,23 @@
--- Laws of the messages: bytes that count up, and their lengths.
+-- A law of the messages' lengths.
 -- Assumes nothing.
-use mathlib.Core.Bool.{Bool, true, false, cond}
-use mathlib.Core.Path.{◌≡◌, refl, sym, ap, ap₂, ◌∙◌}
-use mathlib.Core.List.{List, [], ◌∷◌, ◌++◌}
-use Prim.Native.Nat.{ℕ, zero, suc, ◌+◌, ◌-◌, ◌%◌, ◌≤◌, ◌<◌}
-use native.Mathlib.Nat.{add-zero, zero-add, suc-add, add-suc, le_of_suc-le-suc}
-use native.Mathlib.Numerals.{add-one}
-use native.Mathlib.Omega.{arith}
-use borrow.Author.Tests.{ltb-true}
-use lib.Dec.{ltb, lit<}
-use lib.ListN.{length, get_or, set, take}
-use lib.Seq.{take-suc-set}
-use Rattle.word.proofs.Bits.{below_at}
-use Rattle.vectors.specs.Messages.{counting_from, longer, length_of, tagged, tagged_length}
-
--- ---- counting
-
-counting-next : (k n : ℕ) → counting_from k (n + 1) ≡ counting_from k n ++ ((k + n) % 256 ∷ [])
-unfolding counting_from
-counting-next k zero = rw add-zero
-counting-next k (suc n) = rw (suc-add, counting-next (suc k) n, suc-add, add-suc)
-
--- one more byte is written
-pub counted_next : (l : List ℕ) (i : ℕ) → i < length l → take i l ≡ counting_from 0 i → take (i + 1) (set l i (i % 256)) ≡ counting_from 0 (i + 1)
-counted_next l i h before =
-    ap (λ (n : ℕ). take n (set l i (i % 256))) (add-one i) ∙ take-suc-set l i (i % 256) h
-    ∙ ap₂ (λ (a : List ℕ) (n : ℕ). a ++ (n % 256 ∷ [])) before (sym (zero-add i)) ∙ sym (counting-next 0 i)
-
--- ---- lengths
+use mathlib.Core.Bool.{Bool, true, false, true≢false}
+use mathlib.Core.Path.{◌≡◌, refl, sym, ◌∙◌}
+use Prim.Native.Nat.{ℕ, ◌≤◌, ◌<◌}
+use borrow.Author.Tests.{leb-true}
+use lib.Dec.{leb}
+use lib.ListN.{length, get_or}
+use Rattle.std.specs.List.{list_all}
+use Rattle.std.proofs.lemmas.List.Folds.{list_all_at}
+use Rattle.vectors.specs.Messages.{lengths}
 
 -- no message is longer than 1,024 bytes
-pub length_most : (i : ℕ) → length_of i ≤ 1024
-unfolding length_of
-length_most i = go (ltb i 130) refl
+pub lengths-most : (i d : ℕ) → i < length lengths → get_or lengths i d ≤ 1024
+unfolding lengths
+lengths-most i d h = go (leb (get_or lengths i d) 1024) refl
   where
-    go : (t : Bool) → ltb i 130 ≡ t → cond t i (get_or longer (i - 130) 0) ≤ 1024
-    go true e = omega (arith, ltb-true i 130 e)
-    go false e = le_of_suc-le-suc (below_at longer (lit< tt) (
-      lit< tt,
-      (lit< tt, (lit< tt, (lit< tt, (lit< tt, (lit< tt, (lit< tt, (lit< tt, (lit< tt, tt)))))))),
-    ) (i - 130))
+    all : list_all (λ (n : ℕ). leb n 1024) lengths ≡ true
+    all = refl
 
-pub tagged-most : (i : ℕ) → tagged_length i ≤ 1024
-unfolding tagged_length
-tagged-most i = le_of_suc-le-suc (below_at tagged (lit< tt) (
-  lit< tt,
-  (lit< tt, (lit< tt, (lit< tt, (lit< tt, (lit< tt, (lit< tt, (lit< tt, (lit< tt, (lit< tt, (lit< tt, (lit< tt, (lit< tt, (lit< tt, (lit< tt, tt)))))))))))))),
-) i)
+    go : (t : Bool) → leb (get_or lengths i d) 1024 ≡ t → get_or lengths i d ≤ 1024
+    go true e = leb-true _ _ e
+    go false e = absurd (true≢false (sym all ∙ list_all_at (λ (n : ℕ). leb n 1024) lengths i d h e))

@@ -1,6 +1,7 @@
 -- What the program writes: a section for each mode, one for the short function and one for tags of all lengths, a line for each message and output.
 -- Assumes nothing.
-use Rattle.std.specs.Prelude.{List, [], ◌∷◌, ◌++◌, ℕ, zero, suc, ◌+◌, ◌*◌, ◌/◌, ◌%◌, take}
+use Rattle.std.specs.Prelude.{List, [], ◌∷◌, ◌++◌, ℕ, take}
+use Rattle.std.specs.List.{flat_map, range_with_len}
 use Rattle.mode.specs.declared.Mode.{Mode}
 use Rattle.mode.specs.declared.Mode.TheVariants.{Prf, Mac, Hash, Xof, HashA, XofA}
 use Rattle.mode.specs.Mode.{row}
@@ -9,7 +10,7 @@ use Rattle.prf_short.specs.Short.{prf_short}
 use Rattle.script.specs.Text.{text, space, newline}
 use Rattle.script.specs.Number.{decimal}
 use Rattle.script.specs.Hex.{hex_of}
-use Rattle.vectors.specs.Messages.{counting_from, length_of, tagged_length}
+use Rattle.vectors.specs.Messages.{counting_from, lengths, tagged}
 
 -- a line: a number, and an output in hexadecimal digits
 unfoldable pub line : ℕ → List ℕ → List ℕ
@@ -27,41 +28,40 @@ tag_line bytes n t = decimal n ++ (space ∷ []) ++ mode_line bytes (Mac t) t n 
 unfoldable pub short_line : List ℕ → ℕ → ℕ → List ℕ
 short_line bytes m t = decimal m ++ (space ∷ []) ++ line t (prf_short (take 16 bytes) (take m bytes) t)
 
--- the lines number 0 to n - 1
-unfoldable pub lines : (ℕ → List ℕ) → ℕ → List ℕ
-lines numbered zero = []
-lines numbered (suc n) = lines numbered n ++ numbered n
+-- a line for each of these numbers
+unfoldable pub lines : (ℕ → List ℕ) → List ℕ → List ℕ
+lines line_of numbers = flat_map line_of numbers
 
 -- a mode: a heading, and a line for each length of a message
 unfoldable pub mode_section : List ℕ → List ℕ → Mode → ℕ → List ℕ
-mode_section heading bytes mode count = heading ++ lines (λ (i : ℕ). mode_line bytes mode count (length_of i) (length_of i)) 139
+mode_section bytes heading mode count = heading ++ lines (λ (n : ℕ). mode_line bytes mode count n n) lengths
 
 -- the short function: a heading, and for each message of 0 to 16 bytes a line for each length of an output, 1 to 16
+unfoldable pub short_lines : List ℕ → ℕ → List ℕ
+short_lines bytes m = lines (short_line bytes m) (range_with_len 1 16)
+
 unfoldable pub short_section : List ℕ → List ℕ → List ℕ
-short_section heading bytes = heading ++ lines (λ (i : ℕ). short_line bytes (i / 16) (i % 16 + 1)) (17 * 16)
+short_section bytes heading = heading ++ lines (short_lines bytes) (range_with_len 0 17)
 
 -- the MAC's tags: a heading, and for each of fifteen messages a line for each length of a tag, 8 to 16
+unfoldable pub tag_lines : List ℕ → ℕ → List ℕ
+tag_lines bytes n = lines (tag_line bytes n) (range_with_len 8 9)
+
 unfoldable pub tag_section : List ℕ → List ℕ → List ℕ
-tag_section heading bytes = heading ++ lines (λ (i : ℕ). tag_line bytes (tagged_length (i / 9)) (i % 9 + 8)) (15 * 9)
+tag_section bytes heading = heading ++ lines (tag_lines bytes) tagged
 
--- all sections, each under its name: first the modes that take no key
-unfoldable pub unkeyed_sections : List ℕ → List ℕ
-unkeyed_sections bytes =
-    mode_section (text "hash\n") bytes Hash 32
-    ++ mode_section (text "xof\n") bytes Xof 64
-    ++ mode_section (text "hasha\n") bytes HashA 32
-    ++ mode_section (text "xofa\n") bytes XofA 64
-
--- then those that take one
-unfoldable pub keyed_sections : List ℕ → List ℕ
-keyed_sections bytes = mode_section (text "prf\n") bytes Prf 64 ++ mode_section (text "mac\n") bytes (Mac 16) 16
+-- all modes, each under its name: first those that take no key, then those that take one
+unfoldable pub mode_sections : List ℕ → List ℕ
+mode_sections bytes =
+    mode_section bytes (text "hash\n") Hash 32
+    ++ mode_section bytes (text "xof\n") Xof 64
+    ++ mode_section bytes (text "hasha\n") HashA 32
+    ++ mode_section bytes (text "xofa\n") XofA 64
+    ++ mode_section bytes (text "prf\n") Prf 64
+    ++ mode_section bytes (text "mac\n") (Mac 16) 16
 
 unfoldable pub vectors_of : List ℕ → List ℕ
-vectors_of bytes =
-    unkeyed_sections bytes
-    ++ keyed_sections bytes
-    ++ short_section (text "prf_short\n") bytes
-    ++ tag_section (text "mac_lengths\n") bytes
+vectors_of bytes = mode_sections bytes ++ short_section bytes (text "prf_short\n") ++ tag_section bytes (text "mac_lengths\n")
 
 -- the messages are the first of 1,024 bytes that count up from 0
 unfoldable pub vectors : List ℕ

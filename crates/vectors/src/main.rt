@@ -8,42 +8,47 @@ ghost use Rattle.mode.specs.Mode.{row};
 ghost use Rattle.sponge.specs.Sponge.{one_shot};
 ghost use Rattle.sponge.specs.Record.{absorbed};
 ghost use Rattle.script.specs.Text.{Wrote};
-ghost use Rattle.vectors.specs.Messages.{counting_from, length_of, tagged_length};
-ghost use Rattle.vectors.specs.Lines.{line, mode_line, tag_line, short_line, mode_section, unkeyed_sections, keyed_sections, short_section, tag_section, vectors};
+ghost use Rattle.script.specs.Writing.{Puts};
+ghost use Rattle.vectors.specs.Messages.{counting_from};
+ghost use Rattle.vectors.specs.Lines.{line, mode_line, tag_line, short_line, mode_section, short_lines, short_section, tag_lines, tag_section, mode_sections, vectors};
 
 use mode::Mode;
+use script::Writer;
 use sponge::Record;
+
+// Standard output, as `io` numbers it. std's writers promise no more of a write than `io::write_all` does, and want the runtime.
+const STDOUT: i32 = 1;
 
 // The longest message.
 const LONGEST: usize = 1024;
 
+// The lengths of messages after 0 to 129: some on both sides of a block's end.
+const LONGER: [usize; 9] = [255, 256, 257, 511, 512, 513, 1000, 1023, 1024];
+
+// The lengths of the messages that tags of every length are given for.
+const TAGGED: [usize; 15] = [0, 1, 7, 8, 15, 16, 17, 31, 32, 33, 63, 64, 65, 100, 1024];
+
 // The bytes 0, 1, 2, .. and after 255 again 0.
-fn counting() -> [u8; 1024]
+fn counting() -> [u8; LONGEST]
     ensures { result ≡ counting_from 0 1024 }
 {
-    let mut bytes = [0u8; 1024];
-    let mut i = 0;
-    while i < LONGEST {
-        bytes[i] = (i % 256) as u8;
-        i += 1;
-    }
-    bytes
+    std::array::from_fn(|i| (i % 256) as u8)
 }
 
-// A message is fed in pieces of 1, 2, 3, .. bytes.
+// A message is fed in pieces of 1, 2, 3, .. bytes. (A `for` over the sizes would not end with the message: it would go on with empty pieces.)
 fn absorb_in_pieces(s: Record, message: &[u8]) -> Record
     ensures { result ≡ absorbed message.now s }
 {
-    let mut current = s;
-    let mut done = 0;
-    let mut size = 0;
-    while done < message.len() {
+    let mut fed = s;
+    let mut rest = message;
+    let mut size = 1;
+    while !rest.is_empty() {
+        let (piece, left) = rest.split_at(size.min(rest.len()));
+        fed = fed.absorb(piece);
+        rest = left;
         size += 1;
-        let end = done + state::shorter(size, message.len() - done);
-        current = current.absorb(&message[done..end]);
-        done = end;
     }
-    current
+    fed
 }
 
 // The output of a mode for a message.
@@ -56,171 +61,159 @@ fn output(mode: Mode, key: &[u8], message: &[u8], out: &mut [u8])
     let _ = ended.squeeze(out);
 }
 
-// The length of message number i: every length up to 129, and then some longer ones on both sides of a block's end.
-fn nth_length(i: usize) -> usize
-    ensures { result ≡ length_of i }
-{
-    if i < 130 {
-        return i;
-    }
-    let longer = [255usize, 256, 257, 511, 512, 513, 1000, 1023, 1024];
-    if i < 139 {
-        return longer[i - 130];
-    }
-    0
-}
-
-// The length of message number i of those that tags of every length are given for.
-fn tagged_length(i: usize) -> usize
-    ensures { result ≡ tagged_length i }
-{
-    let tagged = [
-        0usize, 1, 7, 8, 15, 16, 17, 31, 32, 33, 63, 64, 65, 100, 1024,
-    ];
-    if i < 15 {
-        return tagged[i];
-    }
-    0
-}
-
-// ---- writing: each function takes the place to write at, and answers the place after what it wrote
+// ---- writing: each function writes behind what is written. The output and the bytes go from one to the other as two parameters: methods of a struct of both would
+// promise besides, one by one, that they leave the bytes as they are. That a length is at most LONGEST is said where it is: a type for it would be made and opened
+// at each call.
 
 // A number, a space, the digits of an output, and the end of the line.
-fn put_line(text: &mut [u8], at: usize, n: usize, output: &[u8]) -> usize
-    ensures { Wrote text.old at (line n output.now) text.new result }
+#[tactic(auto, using(script::proofs::Texts::parts), unfolding(crate::specs::Lines::line))]
+fn put_line(out: &mut Writer, n: usize, output: &[u8])
+    ensures { Puts (line n output.now) out.old out.new }
 {
-    let after_number = script::put_decimal(text, at, n as u64);
-    let digits_at = script::put_byte(text, after_number, b' ');
-    let after_digits = script::put_hex(text, digits_at, output);
-    script::put_byte(text, after_digits, b'\n')
+    out.put_decimal(n as u64);
+    out.put_byte(b' ');
+    out.put_hex(output);
+    out.put_byte(b'\n');
 }
 
 // No mode is asked for more than 64 bytes.
+#[tactic(auto, unfolding(crate::specs::Lines::mode_line))]
 fn put_mode_line(
-    text: &mut [u8],
-    at: usize,
-    bytes: &[u8],
+    out: &mut Writer,
+    bytes: &[u8; LONGEST],
     mode: Mode,
     count: usize,
     n: usize,
     number: usize,
-) -> usize
-    requires { (16 ≤ length bytes.now) × (n ≤ length bytes.now) × (count ≤ 64) }
-    ensures { Wrote text.old at (mode_line bytes.now mode count n number) text.new result }
+)
+    requires { (n ≤ LONGEST) × (count ≤ 64) }
+    ensures { Puts (mode_line bytes.now mode count n number) out.old out.new }
 {
-    let mut out = [0u8; 64];
-    output(mode, &bytes[..16], &bytes[..n], &mut out[..count]);
-    put_line(text, at, number, &out[..count])
+    let mut buffer = [0u8; 64];
+    let made = &mut buffer[..count];
+    output(mode, &bytes[..16], &bytes[..n], made);
+    put_line(out, number, made);
 }
 
 // The MAC of a message, with tags of t bytes.
-fn put_tag_line(text: &mut [u8], at: usize, bytes: &[u8], n: usize, t: usize) -> usize
-    requires { (16 ≤ length bytes.now) × (n ≤ length bytes.now) × (t ≤ 16) }
-    ensures { Wrote text.old at (tag_line bytes.now n t) text.new result }
+#[tactic(auto, using(script::proofs::Texts::parts), unfolding(crate::specs::Lines::tag_line))]
+fn put_tag_line(out: &mut Writer, bytes: &[u8; LONGEST], n: usize, t: usize)
+    requires { (n ≤ LONGEST) × (t ≤ 16) }
+    ensures { Puts (tag_line bytes.now n t) out.old out.new }
 {
-    let after_number = script::put_decimal(text, at, n as u64);
-    let line_at = script::put_byte(text, after_number, b' ');
-    let length = t as u8;
-    put_mode_line(text, line_at, bytes, Mode::Mac(length), t, n, t)
+    out.put_decimal(n as u64);
+    out.put_byte(b' ');
+    put_mode_line(out, bytes, Mode::Mac(t as u8), t, n, t);
 }
 
 // With m and t in these bounds the short function refuses nothing.
-fn put_short_line(text: &mut [u8], at: usize, bytes: &[u8], m: usize, t: usize) -> usize
-    requires { (16 ≤ length bytes.now) × (m ≤ 16) × (1 ≤ t) × (t ≤ 16) }
-    ensures { Wrote text.old at (short_line bytes.now m t) text.new result }
+#[tactic(auto, using(script::proofs::Texts::parts), unfolding(crate::specs::Lines::short_line))]
+fn put_short_line(out: &mut Writer, bytes: &[u8; LONGEST], m: usize, t: usize)
+    requires { (m ≤ 16) × (1 ≤ t) × (t ≤ 16) }
+    ensures { Puts (short_line bytes.now m t) out.old out.new }
 {
-    let mut out = [0u8; 16];
-    let _ = prf_short::prf_short(&bytes[..16], &bytes[..m], &mut out[..t], t);
-    let after_number = script::put_decimal(text, at, m as u64);
-    let line_at = script::put_byte(text, after_number, b' ');
-    put_line(text, line_at, t, &out[..t])
+    let mut buffer = [0u8; 16];
+    let made = &mut buffer[..t];
+    let _ = prf_short::prf_short(&bytes[..16], &bytes[..m], made, t);
+    out.put_decimal(m as u64);
+    out.put_byte(b' ');
+    put_line(out, t, made);
 }
 
 // A line for each length of a message.
-fn put_mode(
-    text: &mut [u8],
-    at: usize,
-    heading: &[u8],
-    bytes: &[u8],
-    mode: Mode,
-    count: usize,
-) -> usize
-    requires { (1024 ≤ length bytes.now) × (count ≤ 64) }
-    ensures { Wrote text.old at (mode_section heading.now bytes.now mode count) text.new result }
+#[tactic(auto, using(crate::proofs::Lines::written), unfolding(crate::specs::Lines::mode_section))]
+fn put_mode(out: &mut Writer, bytes: &[u8; LONGEST], heading: &[u8], mode: Mode, count: usize)
+    requires { count ≤ 64 }
+    ensures { Puts (mode_section bytes.now heading.now mode count) out.old out.new }
 {
-    let mut next = script::put_bytes(text, at, heading);
-    let mut i = 0;
-    while i < 139 {
-        let n = nth_length(i);
-        next = put_mode_line(text, next, bytes, mode, count, n, n);
-        i += 1;
+    out.put_bytes(heading);
+    for n in (0..130).chain(LONGER.iter().copied()) {
+        put_mode_line(out, bytes, mode, count, n, n);
     }
-    next
 }
 
-// A line for each message of 0 to 16 bytes and each length of an output, 1 to 16.
-fn put_short(text: &mut [u8], at: usize, heading: &[u8], bytes: &[u8]) -> usize
-    requires { 16 ≤ length bytes.now }
-    ensures { Wrote text.old at (short_section heading.now bytes.now) text.new result }
+// A line for each length of an output, 1 to 16. `put_nothing` comes first, since a place past the buffer becomes its end even before the first line.
+#[tactic(auto, using(crate::proofs::Lines::written), unfolding(crate::specs::Lines::short_lines))]
+fn put_short_lines(out: &mut Writer, bytes: &[u8; LONGEST], m: usize)
+    requires { m ≤ 16 }
+    ensures { Puts (short_lines bytes.now m) out.old out.new }
 {
-    let mut next = script::put_bytes(text, at, heading);
-    let mut i = 0;
-    while i < 17 * 16 {
-        next = put_short_line(text, next, bytes, i / 16, i % 16 + 1);
-        i += 1;
+    out.put_nothing();
+    for t in 1..=16 {
+        put_short_line(out, bytes, m, t);
     }
-    next
 }
 
-// A line for each of fifteen messages and each length of a tag, 8 to 16.
-fn put_tags(text: &mut [u8], at: usize, heading: &[u8], bytes: &[u8]) -> usize
-    requires { 1024 ≤ length bytes.now }
-    ensures { Wrote text.old at (tag_section heading.now bytes.now) text.new result }
+// The lines for each message of 0 to 16 bytes.
+#[tactic(auto, using(crate::proofs::Lines::written), unfolding(crate::specs::Lines::short_section))]
+fn put_short(out: &mut Writer, bytes: &[u8; LONGEST], heading: &[u8])
+    ensures { Puts (short_section bytes.now heading.now) out.old out.new }
 {
-    let mut next = script::put_bytes(text, at, heading);
-    let mut i = 0;
-    while i < 15 * 9 {
-        let n = tagged_length(i / 9);
-        next = put_tag_line(text, next, bytes, n, i % 9 + 8);
-        i += 1;
+    out.put_bytes(heading);
+    for m in 0..=16 {
+        put_short_lines(out, bytes, m);
     }
-    next
 }
 
-// The modes that take no key.
-fn put_unkeyed(text: &mut [u8], at: usize, bytes: &[u8]) -> usize
-    requires { 1024 ≤ length bytes.now }
-    ensures { Wrote text.old at (unkeyed_sections bytes.now) text.new result }
+// A line for each length of a tag, 8 to 16, likewise. (One function for both would be given the line and its bounds, which is all that each of them says.)
+#[tactic(auto, using(crate::proofs::Lines::written), unfolding(crate::specs::Lines::tag_lines))]
+fn put_tag_lines(out: &mut Writer, bytes: &[u8; LONGEST], n: usize)
+    requires { n ≤ LONGEST }
+    ensures { Puts (tag_lines bytes.now n) out.old out.new }
 {
-    let xof_at = put_mode(text, at, b"hash\n", bytes, Mode::Hash, 32);
-    let hasha_at = put_mode(text, xof_at, b"xof\n", bytes, Mode::Xof, 64);
-    let xofa_at = put_mode(text, hasha_at, b"hasha\n", bytes, Mode::HashA, 32);
-    put_mode(text, xofa_at, b"xofa\n", bytes, Mode::XofA, 64)
+    out.put_nothing();
+    for t in 8..=16 {
+        put_tag_line(out, bytes, n, t);
+    }
 }
 
-// Those that take one.
-fn put_keyed(text: &mut [u8], at: usize, bytes: &[u8]) -> usize
-    requires { 1024 ≤ length bytes.now }
-    ensures { Wrote text.old at (keyed_sections bytes.now) text.new result }
+// The lines for each of fifteen messages.
+#[tactic(auto, using(crate::proofs::Lines::written), unfolding(crate::specs::Lines::tag_section, crate::specs::Messages::tagged))]
+fn put_tags(out: &mut Writer, bytes: &[u8; LONGEST], heading: &[u8])
+    ensures { Puts (tag_section bytes.now heading.now) out.old out.new }
 {
-    let mac_at = put_mode(text, at, b"prf\n", bytes, Mode::Prf, 64);
-    put_mode(text, mac_at, b"mac\n", bytes, Mode::Mac(16), 16)
+    out.put_bytes(heading);
+    for n in TAGGED {
+        put_tag_lines(out, bytes, n);
+    }
 }
 
-// All of it, from the start of the buffer on.
-fn put_vectors(text: &mut [u8]) -> usize
-    ensures { Wrote text.old 0 vectors text.new result }
+// First the modes that take no key, then those that take one. (A table of heading, mode and count would have as many lines, and a loop besides.)
+#[tactic(auto, using(script::proofs::Texts::parts), unfolding(crate::specs::Lines::mode_sections))]
+fn put_modes(out: &mut Writer, bytes: &[u8; LONGEST])
+    ensures { Puts (mode_sections bytes.now) out.old out.new }
+{
+    put_mode(out, bytes, b"hash\n", Mode::Hash, 32);
+    put_mode(out, bytes, b"xof\n", Mode::Xof, 64);
+    put_mode(out, bytes, b"hasha\n", Mode::HashA, 32);
+    put_mode(out, bytes, b"xofa\n", Mode::XofA, 64);
+    put_mode(out, bytes, b"prf\n", Mode::Prf, 64);
+    put_mode(out, bytes, b"mac\n", Mode::Mac(16), 16);
+}
+
+// All of it.
+#[tactic(auto, using(script::proofs::Texts::parts), unfolding(crate::specs::Lines::vectors_of, crate::specs::Lines::vectors))]
+fn put_vectors(out: &mut Writer)
+    ensures { Puts vectors out.old out.new }
 {
     let bytes = counting();
-    let keyed_at = put_unkeyed(text, 0, &bytes);
-    let short_at = put_keyed(text, keyed_at, &bytes);
-    let tags_at = put_short(text, short_at, b"prf_short\n", &bytes);
-    put_tags(text, tags_at, b"mac_lengths\n", &bytes)
+    put_modes(out, &bytes);
+    put_short(out, &bytes, b"prf_short\n");
+    put_tags(out, &bytes, b"mac_lengths\n");
+}
+
+// The same from a buffer's start on. Answers the place behind it.
+fn list_vectors(text: &mut [u8]) -> usize
+    ensures { Wrote text.old 0 vectors text.new result }
+{
+    let mut out = Writer { out: text, at: 0 };
+    put_vectors(&mut out);
+    out.at
 }
 
 // The buffer is longer than the text, which has 89,555 bytes.
 fn main() {
     let mut text = [0u8; 98304];
-    let end = put_vectors(&mut text);
-    io::write_all(1, &text[..end]);
+    let length = list_vectors(&mut text);
+    io::write_all(STDOUT, &text[..length]);
 }

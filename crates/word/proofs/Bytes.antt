@@ -5,7 +5,7 @@ use mathlib.Core.Path.{◌≡◌, refl, sym, ap, ap₂, ◌∙◌, subst}
 use mathlib.Core.Bool.{true}
 use mathlib.Core.List.{List, [], ◌∷◌, ◌++◌}
 use Prim.Native.Nat.{ℕ, zero, suc, ◌+◌, ◌-◌, ◌*◌, ◌/◌, ◌%◌, ◌^◌, ◌≤◌, ◌<◌}
-use native.Mathlib.Nat.{mod-lt, mod-one, mod-eq_of_lt, add-mul, add-suc, add-zero, zero-add, suc-add, mul_assoc, zero-mul, zero-lt-suc, not-suc-le-zero, le_of_suc-le-suc}
+use native.Mathlib.Nat.{mod-lt, mod-one, mod-eq_of_lt, add-mul, add-suc, add-zero, zero-add, suc-add, mul_assoc, add_assoc, zero-mul, zero-lt-suc, div-one, not-suc-le-zero, le_of_suc-le-suc}
 use native.Mathlib.Omega.{arith}
 use borrow.Author.Tests.{eq-eqb}
 use lib.Arith.{bin_ind, digits_lt}
@@ -14,6 +14,10 @@ use lib.Dec.{eqb}
 use lib.Pow.{pow-add, mod-pow-add, shl_lt, shl_exact}
 use lib.ListN.{length, get_or, take, drop, replicate}
 use lib.Seq.{set-get_or, get_or-drop, take_at, ext_get_or}
+use mir.Syntax.{w64}
+use Rattle.std.specs.List.{fold}
+use Rattle.std.specs.Int.{from_be_bytes, to_be_bytes}
+use Rattle.word.proofs.Arrays.{listed, written_out}
 use Rattle.word.specs.Bytes.{weight, byte_at, bytes_from, xor_word, xor_at, xor_from, window, from_bytes, to_bytes}
 
 -- ---- exclusive or
@@ -110,19 +114,25 @@ from_bytes-lt (b ∷ bs) h =
     subst (λ (x : ℕ). from_bytes (b ∷ bs) < x) (sym (ap (λ (k : ℕ). 2 ^ k) e ∙ pow-add 2 8 (8 * length bs)))
     (digits_lt (h 0) (from_bytes-lt bs (λ i. h (suc i))))
 
--- the same number by shifts at 64 bits and ors
-abbrev pub shifted_together : List ℕ → ℕ
-shifted_together [] = 0
-shifted_together (b ∷ []) = b
-shifted_together (b ∷ c ∷ bs) = bit_or ((b * 2 ^ (8 * length (c ∷ bs))) % 2 ^ 64) (shifted_together (c ∷ bs))
+-- the same number by shifts at 64 bits and ors, byte after byte, from a number of p bytes on
+abbrev pub next_byte : ℕ → ℕ → ℕ
+next_byte x b = bit_or ((x * 2 ^ 8) % 2 ^ 64) b
 
-pub from_bytes-by_shifts : (bs : List ℕ) → Bytes bs → length bs ≤ 8 → shifted_together bs ≡ from_bytes bs
+pub from_bytes-onward : (bs : List ℕ) (x p : ℕ) → Bytes bs → x < 2 ^ (8 * p) → p + length bs ≤ 8 → fold next_byte x bs ≡ x * 2 ^ (8 * length bs) + from_bytes bs
 unfolding from_bytes
-from_bytes-by_shifts [] h k = refl
-from_bytes-by_shifts (b ∷ []) h k = omega arith
-from_bytes-by_shifts (b ∷ c ∷ bs) h k =
-    ap₂ bit_or (shl_exact 8 (8 * length (c ∷ bs)) 64 (h 0) (omega arith)) (from_bytes-by_shifts (c ∷ bs) (λ i. h (suc i)) (omega arith))
-    ∙ or_shifted b (8 * length (c ∷ bs)) (from_bytes (c ∷ bs)) (from_bytes-lt (c ∷ bs) (λ i. h (suc i)))
+from_bytes-onward [] x p h l few = omega arith
+from_bytes-onward (b ∷ bs) x p h l few =
+    let n : ℕ = length bs in
+    let next : next_byte x b ≡ x * 2 ^ 8 + b = ap (λ (y : ℕ). bit_or y b) (shl_exact (8 * p) 8 64 l (omega arith)) ∙ or_shifted x 8 b (h 0) in
+    let places : 8 * suc p ≡ 8 * p + 8 = omega arith in
+    let places' : 8 * suc n ≡ 8 + 8 * n = omega arith in
+    let fits : x * 2 ^ 8 + b < 2 ^ (8 * suc p) = rw (places, pow-add 2 (8 * p) 8) (digits_lt l (h 0)) in
+    ap (λ (y : ℕ). fold next_byte y bs) next
+    ∙ from_bytes-onward bs (x * 2 ^ 8 + b) (suc p) (λ i. h (suc i)) fits (omega arith)
+    ∙ rw (places', pow-add 2 8 (8 * n), add-mul (x * 2 ^ 8) b (2 ^ (8 * n)), mul_assoc x (2 ^ 8) (2 ^ (8 * n)), add_assoc)
+
+pub from_bytes-folded : (bs : List ℕ) → Bytes bs → length bs ≤ 8 → fold next_byte 0 bs ≡ from_bytes bs
+from_bytes-folded bs h few = from_bytes-onward bs 0 0 h (omega arith) (omega arith) ∙ rw zero-mul (zero-add (from_bytes bs))
 
 -- ---- byte 8 * j + i of some words, which n more of its word follow
 
@@ -135,14 +145,21 @@ weight_in j i n e =
     let places : 8 * (7 - (8 * j + i) % 8) ≡ 8 * n = omega arith in
     ap (λ (p : ℕ). 2 ^ p) places
 
--- the rest of word j, from its byte i on: the number that its bytes make
-window-rest : (bs : List ℕ) (j i : ℕ) → Bytes bs → i + length bs ≡ 8 → window (8 * j + i) bs j ≡ from_bytes bs
+-- bytes of word j from its byte i on, which q more of its bytes follow: the number that they make there
+pub window-within : (bs : List ℕ) (j i q : ℕ) → Bytes bs → i + length bs + q ≡ 8 → window (8 * j + i) bs j ≡ from_bytes bs * 2 ^ (8 * q)
 unfolding window from_bytes
-window-rest [] j i h e = refl
-window-rest (b ∷ bs) j i h e =
-    let here : eqb ((8 * j + i) / 8) j ≡ true = eq-eqb ((8 * j + i) / 8) j (in_word j i (length bs) e) in
-    rw (here, weight_in j i (length bs) e, ← add-suc (8 * j) i, window-rest bs j (suc i) (λ n. h (suc n)) (omega (arith, e)))
-    (xor_shifted b (8 * length bs) (from_bytes bs) (from_bytes-lt bs (λ n. h (suc n))))
+window-within [] j i q h e = rw zero-mul
+window-within (b ∷ bs) j i q h e =
+    let here : eqb ((8 * j + i) / 8) j ≡ true = eq-eqb ((8 * j + i) / 8) j (in_word j i (length bs + q) (omega (arith, e))) in
+    let places : 8 * (length bs + q) ≡ 8 * length bs + 8 * q = omega arith in
+    rw (
+      here,
+      weight_in j i (length bs + q) (omega (arith, e)),
+      places,
+      ← add-suc (8 * j) i,
+      window-within bs j (suc i) q (λ n. h (suc n)) (omega (arith, e)),
+    )
+    (xor_joined b (from_bytes bs) (8 * length bs) (8 * q) (from_bytes-lt bs (λ n. h (suc n))))
 
 -- and read: the lowest bytes of the word
 read-rest : (n : ℕ) (ws : List ℕ) (j i : ℕ) → i + n ≡ 8 → bytes_from (8 * j + i) n ws ≡ to_bytes n (get_or ws j 0)
@@ -152,9 +169,6 @@ read-rest (suc n) ws j i e =
     ap₂ (λ (b : ℕ) (t : List ℕ). b ∷ t)
     (ap₂ (λ (q s : ℕ). get_or ws q 0 / s % 256) (in_word j i n e) (weight_in j i n e))
     (ap (λ (k : ℕ). bytes_from k n ws) (sym (add-suc (8 * j) i)) ∙ read-rest n ws j (suc i) (omega (arith, e)))
-
-pub window-word : (bs : List ℕ) (j : ℕ) → Bytes bs → length bs ≡ 8 → window (8 * j) bs j ≡ from_bytes bs
-window-word bs j h e = ap (λ (k : ℕ). window k bs j) (sym (add-zero (8 * j))) ∙ window-rest bs j 0 h (zero-add (length bs) ∙ e)
 
 pub bytes_from-word : (ws : List ℕ) (j : ℕ) → bytes_from (8 * j) 8 ws ≡ to_bytes 8 (get_or ws j 0)
 bytes_from-word ws j = ap (λ (k : ℕ). bytes_from k 8 ws) (sym (add-zero (8 * j))) ∙ read-rest 8 ws j 0 refl
@@ -212,3 +226,16 @@ by_bytes l k ws h =
 
 pub each-byte : (l : List ℕ) (k : ℕ) (ws : List ℕ) → l ≡ bytes_from k (length l) ws → (i : ℕ) → i < length l → get_or l i 0 ≡ byte_at ws (k + i)
 each-byte l k ws e i j = ap (λ (t : List ℕ). get_or t i 0) e ∙ bytes_from-at (length l) k i ws j
+
+-- ---- the library's conversions of a number of 64 bits
+
+pub big_endian-read : (bs : List ℕ) → length bs ≡ 8 → from_be_bytes w64 bs ≡ from_bytes bs
+unfolding from_bytes
+big_endian-read bs eight =
+    let all : bs ≡ listed 8 (λ i. get_or bs i 0) = written_out 8 bs eight in
+    let read : from_be_bytes w64 bs ≡ from_bytes (listed 8 (λ i. get_or bs i 0)) = omega arith in
+    read ∙ sym (ap from_bytes all)
+
+pub big_endian-written : (x : ℕ) → to_be_bytes w64 x ≡ to_bytes 8 x
+unfolding to_bytes
+big_endian-written x = simp div-one refl

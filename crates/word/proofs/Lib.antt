@@ -8,4 +8,3 @@ pub mod Bytes
 pub mod Windows
 pub mod Xored
 pub mod WordAt
-pub mod Cases

@@ -1,23 +1,21 @@
 -- Bytes xored into words, word by word: word j is xored with the number that the bytes make in it, its window.
 -- Assumes nothing.
 use mathlib.Core.Bool.{cond}
-use mathlib.Core.Path.{◌≡◌, refl, sym, ap, ap₂, ◌∙◌, subst}
+use mathlib.Core.Path.{◌≡◌, refl, sym, ap, ◌∙◌}
 use mathlib.Core.List.{List, [], ◌∷◌, ◌++◌}
 use Prim.Native.Nat.{ℕ, zero, suc, ◌+◌, ◌-◌, ◌*◌, ◌/◌, ◌%◌, ◌^◌, ◌≤◌, ◌<◌}
 use native.Mathlib.Decide.{dec_lt, ℕ_discrete}
-use native.Mathlib.Nat.{add-zero, add-suc, suc-add, sub-zero}
+use native.Mathlib.Nat.{add-zero, add-suc, suc-add, sub-zero, mul-one}
 use native.Mathlib.Omega.{arith}
 use borrow.Author.Tests.{eq-eqb, ne_eqb}
-use lib.Arith.{digits_lt}
 use lib.Bits.{bit_xor, xor_zero_r}
 use lib.Dec.{eqb}
 use lib.ListN.{length, get_or, set, take, drop, replicate, drop_of_length-le, length-set, length-drop, length-replicate, take-append-drop}
-use lib.Pow.{pow-add}
-use lib.Seq.{get_or-set_same, get_or-set_other, drop-cons, drop-drop, length-take-le}
+use lib.Seq.{get_or-set_same, get_or-set_other, drop-drop, length-take-le}
 use Rattle.word.specs.Bytes.{weight, xor_word, xor_at, xor_from, window, from_bytes, words_of}
 use Rattle.word.proofs.Arrays.{listed, listed_same, written_out}
 use Rattle.word.proofs.Lists.{zeros-at}
-use Rattle.word.proofs.Bytes.{xor_assoc, xor_joined, Bytes, part_bytes, window-word}
+use Rattle.word.proofs.Bytes.{xor_assoc, Bytes, part_bytes, window-within}
 
 -- ---- windows
 
@@ -72,24 +70,6 @@ window-done bs k i j past = go (dec_lt i (length bs))
         let all : length bs ≤ i = omega arith in
         rw (drop_of_length-le bs all)
 
--- the next byte, which stands in word j, and then what is left
-pub window-next : (bs : List ℕ) (k i j : ℕ) → i < length bs → (k + i) / 8 ≡ j
-    → window (k + i) (drop i bs) j ≡ bit_xor (get_or bs i 0 * weight (k + i)) (window (k + (i + 1)) (drop (i + 1) bs) j)
-unfolding window
-window-next bs k i j h e =
-    let next : k + (i + 1) ≡ suc (k + i) = omega arith in
-    let one : i + 1 ≡ suc i = omega arith in
-    rw (drop-cons bs i 0 h, next, one, eq-eqb ((k + i) / 8) j e)
-
--- a number of p bytes and one byte more: how large it is, and what it makes where q bits follow it
-pub next-byte-lt : (x b p : ℕ) → x < 2 ^ (8 * p) → b < 256 → x * 256 + b < 2 ^ (8 * suc p)
-next-byte-lt x b p h l =
-    let places : 8 * suc p ≡ 8 * p + 8 = omega arith in
-    subst (λ (y : ℕ). x * 256 + b < y) (sym (ap (λ (n : ℕ). 2 ^ n) places ∙ pow-add 2 (8 * p) 8)) (digits_lt h l)
-
-pub next-byte_xor : (x b q w : ℕ) → b < 256 → bit_xor ((x * 256 + b) * 2 ^ q) w ≡ bit_xor (x * 2 ^ (8 + q)) (bit_xor (b * 2 ^ q) w)
-next-byte_xor x b q w l = ap (λ (y : ℕ). bit_xor y w) (sym (xor_joined x b 8 q l)) ∙ xor_assoc (x * 2 ^ (8 + q)) (b * 2 ^ q) w
-
 -- bytes that stand i words further on make the same numbers i words further on
 pub window-moved : (bs : List ℕ) (i k j : ℕ) → window (8 * i + k) bs (i + j) ≡ window k bs j
 unfolding window weight
@@ -105,17 +85,31 @@ window-moved (b ∷ bs) i k j =
     same_word (yes e) = eq-eqb (i + k / 8) (i + j) (omega arith) ∙ sym (eq-eqb (k / 8) j e)
     same_word (no n) = ne_eqb (i + k / 8) (i + j) (λ e. n (omega arith)) ∙ sym (ne_eqb (k / 8) j n)
 
+-- the part of the bytes, from begin to end, that stands in word j
+pub window-part : (bs : List ℕ) (k j begin end : ℕ) → Bytes bs → begin ≡ 8 * j - k → begin ≤ end → end ≤ length bs → k + end ≤ 8 * j + 8
+    → (end < length bs → 8 * j + 8 ≤ k + end) → window k bs j ≡ from_bytes (take (end - begin) (drop begin bs)) * 2 ^ (8 * (8 * j + 8 - (k + end)))
+window-part bs k j begin end bytes first ordered inside within all =
+    let n : ℕ = end - begin in
+    let part : List ℕ = take n (drop begin bs) in
+    let count : length part ≡ n = length-take-le n (drop begin bs) (omega (arith, length-drop begin bs)) in
+    let place : k + begin ≡ 8 * j + (k + begin - 8 * j) = omega arith in
+    let rest : begin + n ≡ end = omega arith in
+    let rest' : k + begin + n ≡ k + end = omega arith in
+    let none : window (k + begin + n) (drop n (drop begin bs)) j ≡ 0 = rw (drop-drop, rest, rest') (window-done bs k end j all) in
+    sym (window-from bs begin k j (omega arith) first)
+    ∙ window-split (drop begin bs) n (k + begin) j (omega (arith, length-drop begin bs))
+    ∙ ap (bit_xor (window (k + begin) part j)) none ∙ xor_zero_r (window (k + begin) part j)
+    ∙ ap (λ (m : ℕ). window m part j) place
+    ∙ window-within part j (k + begin - 8 * j) (8 * j + 8 - (k + end)) (part_bytes n begin bs bytes) (omega (arith, count))
+
 -- all eight bytes of word j are there
 pub window-all : (bs : List ℕ) (k j : ℕ) → Bytes bs → k ≤ 8 * j → 8 * j + 8 ≤ k + length bs → window k bs j ≡ from_bytes (take 8 (drop (8 * j - k) bs))
 window-all bs k j bytes before after =
     let n : ℕ = 8 * j - k in
-    let start : k + n ≡ 8 * j = omega arith in
-    let eight : length (take 8 (drop n bs)) ≡ 8 = length-take-le 8 (drop n bs) (omega (arith, length-drop n bs)) in
-    window-skip bs n k j (omega arith) (omega arith)
-    ∙ ap (λ (m : ℕ). window m (drop n bs) j) start
-    ∙ window-split (drop n bs) 8 (8 * j) j (omega (arith, length-drop n bs))
-    ∙ ap₂ bit_xor (window-word (take 8 (drop n bs)) j (part_bytes 8 n bs bytes) eight) (window_past (drop 8 (drop n bs)) (8 * j + 8) j (omega arith))
-    ∙ xor_zero_r (from_bytes (take 8 (drop n bs)))
+    let eight : n + 8 - n ≡ 8 = omega arith in
+    let none : 8 * j + 8 - (k + (n + 8)) ≡ 0 = omega arith in
+    window-part bs k j n (n + 8) bytes refl (omega arith) (omega arith) (omega arith) (λ l. omega arith)
+    ∙ rw (eight, none) (mul-one (from_bytes (take 8 (drop n bs))))
 
 -- and if the first n bytes alone are taken, all eight bytes are among them
 pub window-first : (bs : List ℕ) (n j : ℕ) → Bytes bs → n ≤ length bs → 8 * j + 8 ≤ n → window 0 (take n bs) j ≡ from_bytes (take 8 (drop (8 * j) bs))

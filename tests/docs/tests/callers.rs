@@ -15,21 +15,33 @@ fn calls(function: &str) -> Vec<String> {
 /// The compiler puts a function into its caller where that is the only one, which these are fast by: docs/ARCHITECTURE.md, "What keeps records in registers".
 #[test]
 fn small_feeds_have_one_caller() {
-    for function in ["absorb_small", "feed_small"] {
+    for function in ["absorb_small", "feed_record::<FEW>", "feed_by::<true>"] {
         let calls = calls(function);
         assert_eq!(calls.len(), 1, "{function} is in {calls:#?}");
     }
 }
 
+/// The one line of the main loop that has a text, by its number.
+fn line_of_the_main_loop(text: &str) -> usize {
+    let lines = code("mainloop");
+    let with: Vec<usize> = (0..lines.len())
+        .filter(|&i| lines[i].contains(text))
+        .collect();
+    assert_eq!(with.len(), 1, "{text} is in lines {with:?}");
+    with[0]
+}
+
 /// Both lists of `mainloop` have one promise, so that one that never lends its hub would meet it.
 #[test]
 fn the_main_loop_serves_in_place() {
-    assert_eq!(calls("serve_in_place").len(), 1);
+    let line = line_of_the_main_loop;
     assert_eq!(calls("controller::feed").len(), 1);
     assert_eq!(calls("controller::close").len(), 1);
-    let lists: Vec<bool> = calls("list")
-        .iter()
-        .map(|line| line.contains("list(true,"))
-        .collect();
-    assert_eq!(lists, [false, true]);
+    assert!(line("impl Calling for ByValue ") < line("impl Calling for InPlace "));
+    assert!(line("impl Calling for InPlace ") < line("controller::feed("));
+    assert!(line("impl Calling for InPlace ") < line("controller::close("));
+    assert!(line("C::feed(&mut hub, ") < line("C::close(&mut hub, "));
+    assert!(line("list::<ByValue>(") < line("list::<InPlace>("));
+    assert_eq!(calls("serve::<C>").len(), 1);
+    assert_eq!(calls("rounds::<C>").len(), 2);
 }

@@ -1,33 +1,36 @@
--- `hub::sum` meets its contract. The loop's invariant: the sum so far and the runs still to come make the whole sum, modulo 2 ^ 64.
+-- `hub::sum` meets its contract.
 -- Assumes nothing.
-use Rattle.std.proofs.Common.{◌≡◌, ◌+◌, ◌%◌, ◌^◌, ap, ◌∙◌, arith, rules}
+use Rattle.std.proofs.Common.{rules, ◌≡◌, ℕ, ◌+◌, ◌%◌, ◌^◌, List, [], ◌∷◌, ◌++◌, refl, ap, subst, arith}
+use Rattle.std.proofs.lemmas.Fn.{fold_over, slice_gives, fronts}
+use Rattle.sponge.specs.declared.record.Record.{Record}
 use Rattle.sponge.specs.Record.{sum64}
-use Rattle.calls.specs.declared.Answer.{Answer}
 use Rattle.calls.specs.Answer.{summed}
 use Rattle.calls.specs.Keyed.{total}
-use Rattle.calls.proofs.Walks.{total-next, total-end}
-use Rattle.hub.specs.Hub.{no_record, sum_hub}
-use Rattle.hub.proofs.Locating.{unmapped}
+use Rattle.hub.specs.Hub.{sum_hub}
 use Rattle.hub.proofs.sum.Goals as goal
-use Rattle.hub.proofs.sum.Invariants.{runs}
 
-pub loop-i-init : goal.loop-i-init
-loop-i-init c = (search (rules, unmapped), omega arith, search rules, omega arith)
+abbrev runs : List Record → ℕ
+runs rs = total (λ (r : Record). r.runs) rs
 
-pub loop-i-preserved : goal.loop-i-preserved
-loop-i-preserved c =
-    let rs = c.args.hub.records in
-    let i = c.loop-i.i in (
-      omega arith,
-      omega arith,
-      omega (arith, c.wrapping_add_u64-total.ensures.value),
-      omega (arith, c.wrapping_add_u64-total.ensures.value, c.runs.ensures, total-next rs i no_record (omega arith) runs),
-    )
+none : runs [] ≡ 0
+unfolding total
+none = refl
 
-pub returns : goal.returns
+one_more : (rs : List Record) (r : Record) → runs (rs ++ (r ∷ [])) ≡ runs rs + r.runs
+unfolding total
+one_more [] r = omega arith
+one_more (x ∷ rs) r = omega (arith, one_more rs r)
+
+pub returns-clause-hub : goal.returns-clause-hub
+unfolding sum_hub
+returns-clause-hub c = refl
+
+pub returns-clause-answer : goal.returns-clause-answer
 unfolding sum_hub sum64
-returns c =
+returns-clause-answer c =
     let h = c.args.hub in
-    let l = c.loop-i in
-    let e : l.total ≡ (h.closed + total runs h.records) % 2 ^ 64 = omega (arith, total-end h.records l.i (omega arith) runs) in
-    ap (λ (a : Answer). record { hub = h; answer = a }) (c.summed.ensures ∙ ap summed e)
+    ap summed
+    (subst (λ (rs : List Record). c.fold-total.result ≡ (h.closed + runs rs) % 2 ^ 64) c.iter.ensures.rest
+    (fold_over fronts (λ y. y.now) _ (λ (rs : List Record) (t : ℕ). t ≡ (h.closed + runs rs) % 2 ^ 64) _
+    (λ rs t r u f same called. let next : u ≡ (t + r.now.runs) % 2 ^ 64 = search rules in (omega (arith, next, same, one_more rs r.now), search rules))
+    _ _ _ _ (slice_gives c.iter.result) (search (rules, none)) c.fold-total.ensures.ran))

@@ -6,5 +6,4 @@ use Rattle.mainloop.proofs.ending.Goals as goal
 
 pub returns : goal.returns
 unfolding ending
-returns c =
-    lists_more (lists_more c.open_eight-opened.ensures c.draw_all-drawn.ensures) c.sum.ensures
+returns c = lists_more (lists_more c.open_eight.ensures c.draw_all.ensures) c.sum.ensures

@@ -6,5 +6,4 @@ use Rattle.mainloop.proofs.opening.Goals as goal
 
 pub returns : goal.returns
 unfolding opening
-returns c =
-    lists_more (lists_more c.open_eight-keyed.ensures c.open_eight-unkeyed.ensures) c.draw.ensures
+returns c = lists_more (lists_more c.open_eight.ensures c.open_eight-2.ensures) c.draw.ensures

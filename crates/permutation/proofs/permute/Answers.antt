@@ -1,33 +1,31 @@
--- `permutation::permute` meets its contract. The loop's invariant: the rounds that are left, of the state as it is, give what all n give of the first state.
+-- `permutation::permute` meets its contract: what is folded over the numbers of the last n rounds, round by round, are the last n rounds.
 -- Assumes nothing.
-use mathlib.Core.Path.{◌≡◌, sym, ap, ◌∙◌}
-use mathlib.Core.List.{List}
-use Prim.Native.Nat.{ℕ, suc, ◌+◌, ◌-◌, ◌<◌, min}
-use native.Mathlib.Omega.{arith}
+use Rattle.std.proofs.Common.{rules, ◌≡◌, List, [], ◌∷◌, ℕ, zero, suc, ◌+◌, ◌-◌, ◌≤◌, min, refl, sym, ap, ◌∙◌, arith}
+use Rattle.std.proofs.iter.Yields.{nat_range_steps}
+use Rattle.std.proofs.lemmas.Fn.{fold_over}
+use Rattle.std.proofs.lemmas.Iterator.{YieldsList-from_range}
+use Rattle.std.proofs.lemmas.List.Sums.{fold-append}
+use Rattle.std.specs.List.{fold, range_with_len}
 use Rattle.permutation.specs.Permutation.{round, last_rounds, permute}
 use Rattle.permutation.proofs.permute.Goals as goal
 
-pub loop-i-init : goal.loop-i-init
-unfolding permute
-loop-i-init c =
-    let first = c.first_round-i in
-    let all : 12 - first.result ≡ min c.args.n 12 = omega (arith, first.ensures) in
-    (omega (arith, first.ensures), ap (λ (k : ℕ). last_rounds k c.args.s) all)
+-- the rounds of a list of numbers, in its order
+abbrev rounds : List ℕ → List ℕ → List ℕ
+rounds s is = fold (λ t i. round i t) s is
 
--- round i, then the rounds after it
-round-first : (i : ℕ) (t : List ℕ) → i < 12 → last_rounds (12 - (i + 1)) (round i t) ≡ last_rounds (12 - i) t
-round-first i t l =
-    let left : suc (12 - (i + 1)) ≡ 12 - i = omega arith in
-    let this : i ≡ 12 - suc (12 - (i + 1)) = omega arith in
-    ap (λ (k : ℕ). last_rounds (12 - (i + 1)) (round k t)) this ∙ ap (λ (k : ℕ). last_rounds k t) left
-
-pub loop-i-preserved : goal.loop-i-preserved
-loop-i-preserved c =
-    let now = c.loop-i in
-    (omega arith, ap (last_rounds (12 - (now.i + 1))) c.round-u.ensures ∙ round-first now.i now.t (omega arith) ∙ now.invariant.1)
+-- the last n of the twelve
+last : (n : ℕ) (s : List ℕ) → n ≤ 12 → rounds s (range_with_len (12 - n) n) ≡ last_rounds n s
+last zero s h = refl
+last (suc n) s h =
+    let next : 12 - suc n + 1 ≡ 12 - n = omega arith in
+    ap (λ k. rounds (round (12 - suc n) s) (range_with_len k n)) next ∙ last n (round (12 - suc n) s) (omega arith)
 
 pub returns : goal.returns
+unfolding permute
 returns c =
-    let last = c.loop-i in
-    let none : 12 - last.i ≡ 0 = omega arith in
-    sym (ap (λ (k : ℕ). last_rounds k last.t) none) ∙ last.invariant.1
+    let n : ℕ = min c.args.n 12 in
+    let first : 12 - c.args.n ≡ 12 - n = omega arith in
+    fold_over nat_range_steps (λ i. i) _ (λ is t. t ≡ rounds c.args.s is) _
+    (λ is t i u f same called. let next : u ≡ round i t = search rules in (next ∙ ap (round i) same ∙ sym (fold-append (λ t i. round i t) c.args.s is (i ∷ [])), refl))
+    _ (range_with_len (12 - n) n) _ _ (YieldsList-from_range (12 - n) 12 n (cc) (omega arith)).runs refl c.fold.ensures.ran
+    ∙ last n c.args.s (omega arith)

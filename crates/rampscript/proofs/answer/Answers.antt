@@ -1,46 +1,52 @@
--- `rampscript::answer` meets its contract. The loop: the bytes before the place were consumed.
+-- `rampscript::answer` meets its contract. The loop: the bytes before the rest were consumed.
 -- Assumes nothing.
-use mathlib.Core.Path.{sym, ap}
+use mathlib.Core.Path.{◌≡◌, sym, ap}
+use mathlib.Core.List.{List}
+use Prim.Native.Nat.{ℕ, ◌-◌, ◌<◌}
 use native.Mathlib.Omega.{arith}
-use lib.Seq.{length-take-le}
+use Rattle.std.proofs.Common.{rules}
+use lib.ListN.{length, take, drop, length-drop}
+use lib.Seq.{length-take-le, take_all}
 use Rattle.interpreter.specs.declared.Progress.{Progress}
-use Rattle.interpreter.specs.Session.{reader_of}
-use Rattle.rampscript.proofs.Chunks.{covers, answers-first, answers-ahead, answers_next, answers-done, answers-failed}
+use Rattle.rampscript.proofs.Chunks.{covers, answers-first, answers-ahead, answers_next, answers-failed}
 use Rattle.rampscript.proofs.answer.Goals as goal
 
-pub loop-at-init : goal.loop-at-init
-loop-at-init c = answers-first _ _ _
+-- the rest from a place on, all of it
+from_on : (rest : List ℕ) (n : ℕ) → take (length rest - n) (drop n rest) ≡ drop n rest
+from_on rest n = take_all (length rest - n) (drop n rest) (omega (arith, length-drop n rest))
+
+pub loop-rest-init : goal.loop-rest-init
+loop-rest-init c = answers-first _ _
 
 -- what was printed stands in the buffer
 pub slice_bounds-out-end : goal.slice_bounds-out-end
 slice_bounds-out-end c =
-    let f = c.fill-filled in
+    let f = c.fill-progress in
     covers _ _ _ f.new.out (ap (λ (p : Progress). p.size) f.ensures.progress) f.ensures.out
 
-pub slice_bounds-write_all-end : goal.slice_bounds-write_all-end
-slice_bounds-write_all-end c =
-    let f = c.fill-filled in
+pub slice_bounds-write-end : goal.slice_bounds-write-end
+slice_bounds-write-end c =
+    let f = c.fill-progress in
     sym (length-take-le _ _ (covers _ _ _ f.new.out (ap (λ (p : Progress). p.size) f.ensures.progress) f.ensures.out))
 
-pub returns-then-not-write_all : goal.returns-then-not-write_all
-returns-then-not-write_all c =
-    let f = c.fill-filled in
-    answers-failed _ _ _ _ _
-    (answers_next _ _ _ _ _ c.loop-at-test.true _ _ f.ensures.progress f.ensures.line c.loop-at.invariant)
+pub loop-rest-smaller : goal.loop-rest-smaller
+loop-rest-smaller c =
+    let f = c.fill-progress in
+    let rest = c.loop-rest.rest.now in
+    let some : 0 < length rest = search rules in
+    let h = answers-ahead c.loop-rest.reader rest f.result f.new.self f.ensures.progress f.ensures.reader some in
+    rw (from_on rest f.result.taken) h
 
-pub loop-at-smaller : goal.loop-at-smaller
-loop-at-smaller c =
-    let f = c.fill-filled in
-    omega (
-      arith,
-      answers-ahead (reader_of c.args.first c.args.line.now) _ _ _ _ c.loop-at-test.true _ _ f.ensures.progress f.ensures.line,
-      c.loop-at-test.true,
-    )
+pub loop-rest-preserved : goal.loop-rest-preserved
+loop-rest-preserved c =
+    let f = c.fill-progress in
+    let rest = c.loop-rest.rest.now in
+    rw (from_on rest f.result.taken) (answers_next c.loop-rest.reader rest f.result f.new.self f.ensures.progress f.ensures.reader _ _ c.loop-rest.invariant)
 
-pub loop-at-preserved : goal.loop-at-preserved
-loop-at-preserved c =
-    let f = c.fill-filled in
-    answers_next _ _ _ _ _ c.loop-at-test.true _ _ f.ensures.progress f.ensures.line c.loop-at.invariant
-
-pub returns : goal.returns
-returns c = answers-done _ _ _ _ _ c.loop-at.invariant c.loop-at-test.false
+pub returns-in_err-write : goal.returns-in_err-write
+returns-in_err-write c =
+    let f = c.fill-progress in
+    let rest = c.loop-rest.rest.now in
+    let n = answers_next c.loop-rest.reader rest f.result f.new.self f.ensures.progress f.ensures.reader _ _ c.loop-rest.invariant in
+    let same : c.from_residual.result ≡ c.write.result = search rules in
+    rw same (answers-failed _ _ _ _ n c.write.result (λ e. absurd (search rules)) c.write.ensures)

@@ -1,17 +1,11 @@
 -- `rampscript::make_turn` meets its contract: the chunk is what was read.
 -- Assumes nothing.
-use mathlib.Core.Path.{sym}
-use lib.ListN.{take}
-use lib.Seq.{length-take-le}
+use mathlib.Core.Path.{◌≡◌, sym, ◌∙◌}
+use Rattle.std.proofs.Common.{rules}
+use Rattle.rampscript.proofs.Turns.{turning-failed}
 use Rattle.rampscript.proofs.make_turn.Goals as goal
 
-pub returns : goal.returns
-returns c =
-    let got = c.read_chunk-got.new.chunk in
-    let n = c.count-count in
-    record {
-      chunk = take n.result got;
-      count = sym (length-take-le n.result got n.ensures.in_bounds.0);
-      failed = c.read_failed.ensures.none;
-      answering = c.answer-answered.ensures;
-    }
+pub returns-in_err-count : goal.returns-in_err-count
+returns-in_err-count c =
+    let same : c.from_residual.result ≡ c.read.result = search rules in
+    turning-failed _ _ c.in_err-count.field-0.0 (same ∙ c.in_err-count.was) (λ f. c.read.ensures.failed (sym same ∙ f))

@@ -10,7 +10,7 @@ use mode::Mode;
 fn tag_length(mode: Mode) -> usize
     ensures { result ≡ min (row mode).most_drawn (row mode).draw_rate }
 {
-    state::shorter(mode.most_drawn(), mode.draw_rate())
+    mode.most_drawn().min(mode.draw_rate())
 }
 
 impl Record {
@@ -19,16 +19,12 @@ impl Record {
     pub fn tag_matches(self, tag: &[u8]) -> bool
         ensures { result ≡ spec.tag_matches tag.now self }
     {
-        let mode = self.mode;
-        let words = self.words;
-        if tag_length(mode) != tag.len() {
+        if tag.len() != tag_length(self.mode) {
             return false;
         }
-        let mut difference: u8 = 0;
-        let mut i = 0;
-        while i < tag.len() {
-            difference = difference | (tag[i] ^ state::byte_at(words, i));
-            i += 1;
+        let mut difference = 0;
+        for (i, b) in tag.iter().enumerate() {
+            difference |= b ^ state::byte_at(self.words, i);
         }
         difference == 0
     }

@@ -1,30 +1,15 @@
--- `state::word_at` meets its contract: shifts and ors of eight bytes make their number.
+-- `state::word_at` meets its contract: the library's number of eight bytes is theirs.
 -- Assumes nothing.
-use mathlib.Core.Path.{sym, ap, ◌∙◌, subst}
-use mathlib.Core.List.{List, ◌∷◌}
-use Prim.Native.Nat.{ℕ}
-use native.Mathlib.Omega.{arith}
-use lib.ListN.{get_or}
+use Rattle.std.proofs.Common.{rules, ◌≡◌, ◌∙◌, ◌+◌, ◌-◌, ap, List, ℕ, length, take, drop, length-take, length-drop, arith}
 use Rattle.word.specs.Bytes.{from_bytes}
-use Rattle.word.proofs.Bytes.{Bytes, part_bytes, from_bytes-by_shifts}
-use Rattle.word.proofs.Lists.{elements, part-written-out}
+use Rattle.word.proofs.Bytes.{big_endian-read}
 use Rattle.state.proofs.word_at.Goals as goal
 
 pub returns : goal.returns
 returns c =
-    let first = c.before.before.before.before.before.before.before.before.before.before.before.before.before.before.before.before in
-    let a = first.args in
-    let l : List ℕ = a.bytes.now in
-    let written = part-written-out l a.i 7 first.requires in
-    let h : Bytes l = λ k. omega (arith, first.shared_slice_known-1.given k) in
-    rw (
-      c.wide-8.ensures,
-      c.wide-7.ensures,
-      c.wide-6.ensures,
-      c.wide-5.ensures,
-      c.wide-4.ensures,
-      c.wide-3.ensures,
-      c.wide-2.ensures,
-      c.wide.ensures,
-    )
-    (from_bytes-by_shifts (get_or l a.i 0 ∷ elements l a.i 1 7) (subst Bytes written (part_bytes 8 a.i l h)) (omega arith) ∙ ap from_bytes (sym written))
+    let i : ℕ = c.args.i in
+    let bytes : List ℕ = c.args.bytes.now in
+    let eight : i + 8 - i ≡ 8 = omega arith in
+    let chunk : c.unwrap.result ≡ take (i + 8 - i) (drop i bytes) = search rules in
+    let count : length c.unwrap.result ≡ 8 = rw chunk (simp (length-take, length-drop) (omega arith)) in
+    c.from_be_bytes.ensures ∙ big_endian-read c.unwrap.result count ∙ ap from_bytes (chunk ∙ ap (λ (n : ℕ). take n (drop i bytes)) eight)

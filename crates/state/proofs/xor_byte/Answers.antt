@@ -10,4 +10,4 @@ pub returns : goal.returns
 unfolding xor_at weight
 returns c =
     let a = c.args in
-    rw (← shl_exact 8 (8 * (7 - a.k % 8)) 64 c.ranges.b.fits (omega arith)) c.xor_word.ensures
+    rw (← shl_exact 8 (8 * (7 - a.k % 8)) 64 c.ranges.b.fits (omega arith), ← c.from.ensures) c.xor_word.ensures

@@ -25,7 +25,7 @@ loop-preserved c =
     let now = c.loop in
     let a = c.args in
     let f = permute a.rounds in
-    (omega arith, ap (repeated (a.times - (now.counter + 1)) f) c.permute-t.ensures ∙ one-first f a.times now.counter now.s (omega arith) ∙ now.invariant.1)
+    (omega arith, ap (repeated (a.times - (now.counter + 1)) f) c.permute-s.ensures ∙ one-first f a.times now.counter now.s (omega arith) ∙ now.invariant.1)
 
 pub returns : goal.returns
 unfolding repeated

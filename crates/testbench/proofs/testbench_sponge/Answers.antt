@@ -5,8 +5,8 @@ use mathlib.Core.List.{List, ◌++◌, append-nil}
 use Prim.Native.Nat.{ℕ, ◌^◌, ◌<◌, min}
 use native.Mathlib.Omega.{arith}
 use lib.ListN.{length, take, drop, take-append-drop}
+use Rattle.std.specs.Prelude.{Some}
 use Rattle.mode.specs.declared.Mode.{Mode}
-use Rattle.mode.specs.declared.Named.TheVariants.{Is}
 use Rattle.mode.specs.Mode.{row, named}
 use Rattle.sponge.specs.Sponge.{start, one_shot, runs_ended}
 use Rattle.sponge.specs.Record.{fresh, finished}
@@ -44,8 +44,8 @@ module _ (mode : Mode) (key m : List ℕ) (cut first n : ℕ) where
 pub returns : goal.returns
 returns c =
     let a = c.args in
-    let m : Mode = c.in-Is.known in
-    let known : named a.mode a.tag_length ≡ Is m = sym c.of_number.ensures.named ∙ c.in-Is.is in
+    let m : Mode = c.in-Some.known in
+    let known : named a.mode a.tag_length ≡ Some m = sym c.of_number.ensures.named ∙ c.in-Some.is in
     let drawn = c.squeeze_in_two-drawn.ensures in
     let ended = c.finish-ended.ensures in
     let fed = c.absorb_in_two-fed.ensures in

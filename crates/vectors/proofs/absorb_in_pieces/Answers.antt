@@ -1,52 +1,30 @@
--- `vectors::absorb_in_pieces` meets its contract. The loop's invariant: the record is the first one, fed the first bytes.
+-- `vectors::absorb_in_pieces` meets its contract.
 -- Assumes nothing.
-use mathlib.Core.Path.{◌≡◌, sym, ap, ap₂, ◌∙◌}
+use mathlib.Core.Path.{◌≡◌, sym, ap, ◌∙◌}
 use mathlib.Core.List.{List}
-use Prim.Native.Nat.{ℕ, ◌+◌, ◌-◌}
+use Prim.Native.Nat.{ℕ}
 use native.Mathlib.Omega.{arith}
+use lib.ListN.{length}
 use borrow.Author.Rules.{rules}
-use lib.ListN.{take, drop}
-use lib.Seq.{take-add, take_all}
-use Rattle.sponge.specs.declared.record.Record.{Record}
+use Rattle.std.proofs.lemmas.Grind.{common_steps}
+use Rattle.std.proofs.lemmas.List.{nil_from_length}
 use Rattle.sponge.specs.Record.{absorbed}
 use Rattle.sponge.proofs.Calls.{absorbed-none, absorbed_append}
 use Rattle.vectors.proofs.absorb_in_pieces.Goals as goal
 
-pub loop-done-init : goal.loop-done-init
-loop-done-init c = (search rules, search rules, sym (absorbed-none c.args.s (search rules)))
-
-pub overflow_add-end : goal.overflow_add-end
-overflow_add-end c = omega (arith, c.shorter.ensures)
-
-pub slice_bounds-absorb-count : goal.slice_bounds-absorb-count
-slice_bounds-absorb-count c = omega (arith, c.shorter.ensures)
-
-pub slice_bounds-absorb-start : goal.slice_bounds-absorb-start
-slice_bounds-absorb-start c = omega (arith, c.shorter.ensures)
-
-pub slice_bounds-absorb-end : goal.slice_bounds-absorb-end
-slice_bounds-absorb-end c = omega (arith, c.shorter.ensures)
-
-pub loop-done-smaller : goal.loop-done-smaller
-loop-done-smaller c = omega (arith, c.shorter.ensures)
-
-pub loop-done-preserved : goal.loop-done-preserved
-loop-done-preserved c =
-    let k = c.shorter.result in
-    let least = c.shorter.ensures in
-    let now = c.loop-done in
-    let a = c.args in
-    let message = a.message.now in
-    let part : now.done + k - now.done ≡ k = omega arith in (
+pub loop-rest-preserved : goal.loop-rest-preserved
+loop-rest-preserved c =
+    let l = c.loop-rest in
+    let cut = c.split_at in (
       omega arith,
-      omega arith,
-      c.absorb-current.ensures ∙ ap₂ (λ (n : ℕ) (r : Record). absorbed (take n (drop now.done message)) r) part now.invariant.2
-          ∙ sym (absorbed_append (take now.done message) (take k (drop now.done message)) a.s)
-          ∙ ap (λ (l : List ℕ). absorbed l a.s) (sym (take-add now.done k message)),
+      grind (arith, common_steps),
+      search rules,
+      ap (absorbed cut.result.1.now) c.absorb-fed.ensures ∙ sym (absorbed_append cut.result.0.now cut.result.1.now l.fed)
+          ∙ ap (λ (t : List ℕ). absorbed t l.fed) (sym cut.ensures.by_index.0) ∙ l.invariant.3,
     )
 
 pub returns : goal.returns
 returns c =
-    let last = c.loop-done in
-    let a = c.args in
-    last.invariant.2 ∙ ap (λ (l : List ℕ). absorbed l a.s) (take_all last.done a.message.now c.loop-done-test.false)
+    let l = c.loop-rest in
+    let none : length l.rest.now ≡ 0 = grind (arith, common_steps) in
+    sym (absorbed-none l.fed l.invariant.2) ∙ ap (λ (t : List ℕ). absorbed t l.fed) (sym (nil_from_length l.rest.now none)) ∙ l.invariant.3

@@ -1,38 +1,28 @@
--- `vectors::put_mode` meets its contract. The loop's invariant: the first i lines are written behind the heading.
+-- `vectors::put_mode` meets its contract: the loop goes over the lengths.
 -- Assumes nothing.
-use mathlib.Core.Path.{◌≡◌, ◌∙◌}
-use Prim.Native.Nat.{ℕ}
+use mathlib.Core.Path.{◌≡◌, refl, sym, ◌∙◌}
+use mathlib.Core.List.{◌++◌}
 use native.Mathlib.Omega.{arith}
-use Rattle.script.proofs.Texts.{wrote-length, wrote-more}
-use Rattle.vectors.specs.Messages.{length_of}
-use Rattle.vectors.specs.Lines.{mode_line, mode_section}
-use Rattle.vectors.proofs.Messages.{length_most}
-use Rattle.vectors.proofs.Lines.{wrote-no_line, wrote-next}
+use Rattle.std.specs.List.{range_with_len}
+use Rattle.std.proofs.lemmas.List.{map-id}
+use Rattle.std.proofs.lemmas.Iterator.{YieldsList-from_range, YieldsList-from_slice}
+use Rattle.std.proofs.lemmas.Iterator.Consumers.{YieldsList-from_copied, YieldsList-from_chain, YieldsList-turn, YieldsList-end}
+use Rattle.vectors.specs.Messages.{longer, lengths}
+use Rattle.vectors.specs.Lines.{mode_section}
+use Rattle.vectors.proofs.Messages.{lengths-most}
 use Rattle.vectors.proofs.put_mode.Goals as goal
 
-pub loop-i-init : goal.loop-i-init
-loop-i-init c =
-    let a = c.args in
-    (omega arith, wrote-no_line (λ (j : ℕ). mode_line a.bytes.now a.mode a.count (length_of j) (length_of j)) c.put_bytes-next.ensures)
-
-pub put_mode_line-next-requires : goal.put_mode_line-next-requires
-put_mode_line-next-requires c = (omega arith, omega (arith, c.nth_length-n.ensures, length_most c.loop-i.i), omega arith)
-
-pub loop-i-preserved : goal.loop-i-preserved
-loop-i-preserved c =
-    let l = c.loop-i in
-    let a = c.args in (
-      omega arith,
-      wrote-next (λ (j : ℕ). mode_line a.bytes.now a.mode a.count (length_of j) (length_of j)) l.i l.invariant.1
-          (rw c.nth_length-n.ensures at c.put_mode_line-next.ensures),
-    )
-
-pub shape_of-text : goal.shape_of-text
-shape_of-text c = wrote-length c.loop-i.invariant.1 ∙ wrote-length c.put_bytes-next.ensures
+pub put_mode_line-requires : goal.put_mode_line-requires
+unfolding lengths
+put_mode_line-requires c =
+    let turn = YieldsList-turn (YieldsList-from_chain (YieldsList-from_range 0 130 130 (cc) refl) (YieldsList-from_copied (YieldsList-from_slice longer (cc))) (cc) (cc))
+    c.loop-n.yielded _ c.loop-n.yielded_by _ _ c.in-Some.n c.in-Some.is c.next.ensures.steps in
+    (omega (arith, lengths-most _ c.in-Some.n turn.0, turn.1), c.requires)
 
 pub returns : goal.returns
-unfolding mode_section
+unfolding lengths mode_section
 returns c =
-    let l = c.loop-i in
-    let all : l.i ≡ 139 = omega arith in
-    wrote-more c.put_bytes-next.ensures (rw all at l.invariant.1)
+    let end = YieldsList-end (YieldsList-from_chain (YieldsList-from_range 0 130 130 (cc) refl) (YieldsList-from_copied (YieldsList-from_slice longer (cc))) (cc) (cc))
+    c.loop-n.yielded _ c.loop-n.yielded_by _ _ c.in-None.is c.next.ensures.steps in
+    let all : c.loop-n.yielded ≡ range_with_len 0 130 ++ longer = sym (map-id _) ∙ end.0 in
+    rw all at c.loop-n.invariant.2

@@ -1,14 +1,10 @@
--- `vectors::put_tags` meets its contract. The loop's invariant: the first i lines are written behind the heading.
+-- `vectors::put_tags` meets its contract. The loop's invariant: the heading and the lines of the messages before this one are written.
 -- Assumes nothing.
-use Prim.Native.Nat.{ℕ, ◌-◌, ◌≤◌, ◌+◌, ◌/◌, ◌%◌}
-use Rattle.script.specs.Text.{Wrote}
-use Rattle.vectors.specs.Messages.{tagged_length}
-use Rattle.vectors.specs.Lines.{lines, tag_line}
+use mathlib.Core.List.{◌++◌}
+use lib.ListN.{take}
+use Rattle.script.specs.Writing.{Puts}
+use Rattle.vectors.specs.Lines.{lines, tag_lines}
 use Rattle.vectors.proofs.put_tags.Given as goal
 
-abbrev pub invariant-loop-i : goal.invariant-loop-i
-invariant-loop-i l =
-    (l.i ≤ 135) × Wrote l.initial.text l.initial.next (lines (λ (j : ℕ). tag_line l.bytes (tagged_length (j / 9)) (j % 9 + 8)) l.i) l.text l.next
-
-abbrev pub decreases-loop-i : goal.decreases-loop-i
-decreases-loop-i l = 135 - l.i
+abbrev pub invariant-loop-n : goal.invariant-loop-n
+invariant-loop-n l = Puts (l.heading ++ lines (tag_lines l.bytes) (take l.n-index l.n-items)) l.fn.out l.out

@@ -1,16 +1,14 @@
--- `sponge::Record::absorb` meets its contract. The loop's invariant: the bytes that are left, fed to the record as it is, give what all of them give to the
--- first record; and as long as some are left, the place is that of the next.
+-- `sponge::Record::absorb` meets its contract: the bytes that are left are `Feeding`.
 -- Assumes nothing.
-use Rattle.std.proofs.Common.{◌≡◌, ◌+◌, ◌-◌, ◌%◌, ◌<◌, ◌≤◌, length, drop}
+use Rattle.std.proofs.Common.{◌<◌, length}
 use Rattle.mode.specs.Mode.{row}
 use Rattle.sponge.specs.Record.{feed_bytes}
+use Rattle.sponge.proofs.Parts.{Feeding}
 use Rattle.sponge.proofs.record.Record.absorb.Given as goal
 
-abbrev pub invariant-loop-done : goal.invariant-loop-done
-invariant-loop-done l =
-    (l.done ≤ length l.bytes) × (l.place < l.rate) × (l.done < length l.bytes → (l.self.fed + l.done) % l.rate ≡ l.place)
-    × (feed_bytes (row l.self.mode) (l.self.fed + l.done) (drop l.done l.bytes) l.current ≡ feed_bytes (row l.self.mode) l.self.fed l.bytes l.self)
-    × (l.current.mode ≡ l.self.mode)
+abbrev pub invariant-loop-left : goal.invariant-loop-left
+invariant-loop-left l =
+    (l.place < l.rate) × Feeding (row l.self.mode) (feed_bytes (row l.self.mode) l.self.fed l.bytes l.self) l.self.mode l.place l.left l.current
 
-abbrev pub decreases-loop-done : goal.decreases-loop-done
-decreases-loop-done l = length l.bytes - l.done
+abbrev pub decreases-loop-left : goal.decreases-loop-left
+decreases-loop-left l = length l.left

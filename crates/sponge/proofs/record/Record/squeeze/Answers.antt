@@ -20,37 +20,17 @@ overflow_cast-used c =
     let r = c.args.self in
     omega (arith, c.used_of_block-used.ensures, used-within (row r.mode) (rates r.mode).draws r.drawn, (rates r.mode).draws-inside)
 
-pub slice_bounds-copy_bytes-end : goal.slice_bounds-copy_bytes-end
-slice_bounds-copy_bytes-end c = omega (arith, c.shorter-rest.ensures)
-
-pub slice_bounds-copy_bytes-end-2 : goal.slice_bounds-copy_bytes-end-2
-slice_bounds-copy_bytes-end-2 c =
-    let least = c.shorter-rest in
-    sym (length-take-le least.result c.args.out.now (omega (arith, least.ensures)))
-
 pub loop-done-init : goal.loop-done-init
 loop-done-init c =
     let a = c.args in
-    let k = c.shorter-rest.result in
+    let k = c.min-done.result in
     let rate = c.draw_rate-rate.ensures in
     let used = c.used_of_block-used.ensures in
     let least : k ≡ min ((row a.self.mode).draw_rate - parts.used (row a.self.mode) a.self.drawn) (length a.out.now) =
-    c.shorter-rest.ensures ∙ ap₂ (λ (x y : ℕ). min (x - y) (length a.out.now)) rate used in
+    c.min-done.ensures ∙ ap₂ (λ (x y : ℕ). min (x - y) (length a.out.now)) rate used in
     let part : length (take k a.out.now) ≡ k = length-take-le k a.out.now (omega arith) in
     squeeze-rest (row a.self.mode) (rates a.self.mode).draws a.self a.out.now _ k least
     (c.copy_bytes.ensures ∙ ap₂ (λ (p n : ℕ). bytes_from p n a.self.words) used part)
-
-pub overflow_sub-out : goal.overflow_sub-out
-overflow_sub-out c = omega (arith, c.loop-done.invariant.inside, c.loop-done.invariant.long)
-
-pub overflow_add-end : goal.overflow_add-end
-overflow_add-end c = omega (arith, c.shorter.ensures)
-
-pub slice_bounds-copy_bytes-count : goal.slice_bounds-copy_bytes-count
-slice_bounds-copy_bytes-count c = omega (arith, c.shorter.ensures)
-
-pub slice_bounds-copy_bytes-start : goal.slice_bounds-copy_bytes-start
-slice_bounds-copy_bytes-start c = omega (arith, c.shorter.ensures)
 
 -- a part that is not empty leaves less to do
 less-left : (n done k rate room : ℕ) → k ≡ min rate room → 0 < rate → 0 < room → done < n → n - (done + k) < n - done
@@ -60,14 +40,14 @@ pub loop-done-smaller : goal.loop-done-smaller
 loop-done-smaller c =
     let now = c.loop-done in
     let rate : 0 < c.draw_rate-rate.result = rw c.draw_rate-rate.ensures (rates c.args.self.mode).draws in
-    less-left _ now.done c.shorter.result _ _
-    c.shorter.ensures rate (omega arith)
+    less-left _ now.done c.min.result _ _
+    c.min.ensures rate (omega arith)
     (rw now.invariant.long at c.loop-done-test.true)
 
 pub loop-done-preserved : goal.loop-done-preserved
 loop-done-preserved c =
     let copy = c.before.before in
-    let k = c.shorter.result in
+    let k = c.min.result in
     let now = c.loop-done in
     let run = c.run-current.ensures
     ∙ ap (λ (n : ℕ). after_run n now.current) c.inner_rounds-rounds.ensures in
@@ -79,10 +59,10 @@ loop-done-preserved c =
       arith,
       same,
       length-drop now.done now.out,
-      c.shorter.ensures,
+      c.min.ensures,
     )) ∙ same in
     let next = squeeze-block (row r.mode) (rates r.mode).draws r _ now.out _ now.current now.done k (now.done + k - now.done) now.invariant
-    (omega (arith, now.invariant.long)) (c.shorter.ensures
+    (omega (arith, now.invariant.long)) (c.min.ensures
     ∙ ap₂ (λ (x y : ℕ). min x (y - now.done)) rate now.invariant.long) same
     (copy.copy_bytes-in-loop-done.ensures ∙ ap₂ (λ (n : ℕ) (x : Record). bytes_from 0 n x.words) part run) in
     rw run next
@@ -90,8 +70,8 @@ loop-done-preserved c =
 pub shape_of-out : goal.shape_of-out
 shape_of-out c =
     let a = c.args in
-    let k = c.shorter-rest.result in
-    let within : k ≤ length a.out.now = omega (arith, c.shorter-rest.ensures) in
+    let k = c.min-done.result in
+    let within : k ≤ length a.out.now = omega (arith, c.min-done.ensures) in
     let part : length (take k a.out.now) ≡ k = length-take-le k a.out.now within in
     c.loop-done.invariant.long
     ∙ front-written a.out.now _ k _ a.self.words within (c.copy_bytes.ensures
@@ -106,7 +86,7 @@ returns c =
     let count : _ ≡ length a.out.now = sym last.invariant.long ∙ shape_of-out c in
     let all = squeeze-all w (rates a.self.mode).draws a.self _ last.out last.current last.done last.invariant (omega (arith, last.invariant.long)) in
     record {
-      after = ap₂ with_drawn (c.wrapping_add_u64.ensures.value ∙ ap (λ (n : ℕ). (a.self.drawn + n) % 2 ^ 64) (shape_of-out c))
+      after = ap₂ with_drawn (ap (λ (n : ℕ). (a.self.drawn + n) % 2 ^ 64) (shape_of-out c))
           (all.0 ∙ ap (λ (n : ℕ). after_drawing w a.self.drawn n a.self) count);
       written = all.1 ∙ ap (λ (n : ℕ). drawn_bytes w a.self.drawn n a.self) count;
     }

@@ -1,2 +1,0 @@
--- Crate `controller`: its laws.
-pub mod Lending

@@ -1,3 +1,0 @@
--- Crate `testbench`: its laws.
-pub mod Halves
-pub mod FeedCounts
