@@ -1,4 +1,4 @@
--- The plan's calls, turns and steps, one after the other.
+-- The plan's calls, turns and steps, one after the other, and that no turn is left behind the last.
 -- Assumes nothing.
 use mathlib.Core.Path.{◌≡◌, refl, sym, ap, ◌∙◌}
 use mathlib.Core.List.{List, [], ◌∷◌, ◌++◌, append-nil, append_assoc}
@@ -9,6 +9,7 @@ use lib.ListN.{length, get_or, take}
 use lib.Seq.{take_all}
 use Rattle.std.proofs.lemmas.List.{take_more}
 use Rattle.calls.specs.Call.{Call}
+use Rattle.calls.proofs.Repeats.{none_left}
 use Rattle.hub.specs.declared.Hub.{Hub}
 use Rattle.day.specs.declared.Step.{Step}
 use Rattle.day.specs.declared.Step.TheVariants.{Begin}
@@ -32,6 +33,11 @@ turn_next first i sample h =
     let e : i + 1 - first ≡ suc (i - first) = omega arith in
     let k : first + (i - first) ≡ i = omega arith in
     rw e (turns_more first (i - first) sample ∙ rw k)
+
+-- no turn is left
+pub no_turn_left : (sample : List ℕ) (end i : ℕ) → end ≤ i → turns_from i (end - i) sample ≡ []
+unfolding turns_from
+no_turn_left sample end i l = rw (none_left end i l)
 
 -- ---- steps that were made
 

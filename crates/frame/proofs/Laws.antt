@@ -6,7 +6,7 @@ use mathlib.Core.Logic.{◌≢◌}
 use mathlib.Core.List.{List}
 use Prim.Native.Nat.{ℕ, ◌+◌, ◌^◌, ◌≤◌, ◌<◌}
 use native.Mathlib.Omega.{arith}
-use borrow.Author.Tests.{eq-eqb, ne_eqb}
+use borrow.Author.Tests.{ltb-false, eq-eqb, ne_eqb}
 use lib.Dec.{eqb, ltb}
 use lib.ListN.{length, take}
 use lib.Seq.{length-take-le, take_all}
@@ -45,6 +45,11 @@ module _ (key frame : List ℕ) (body : ℕ) where
   passed : frame_refusal key frame body ≡ 0 → Pass (frame_checks key frame body)
   unfolding frame_refusal
   passed z = zero-passes (frame_checks key frame body) numbered z
+
+  -- the frame has room for the tag
+  pub has_room : frame_refusal key frame body ≡ 0 → body + 16 ≤ length frame
+  unfolding frame_checks
+  has_room z = ltb-false (length frame) (body + 16) (passed z).1.0
 
   -- ---- the calls, refused: the number is not 0
 

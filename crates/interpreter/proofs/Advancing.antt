@@ -41,6 +41,14 @@ holding-step s k line = go (meaning s.number line)
     go (call_line c) = refl
     go malformed_line = refl
 
+-- what is at most a number and is not that number is below it
+pub below : {a b : ℕ} → a ≤ b → (a ≡ b → ⊥) → a < b
+below {a} {b} h n = go (dec_le b a)
+  where
+    go : Dec (b ≤ a) → a < b
+    go (yes k) = absurd (n (omega arith))
+    go (no k) = omega arith
+
 -- a text up to a place past its end is the text up to its end
 take-least : (k n : ℕ) (l : List ℕ) → k ≡ min n (length l) → take n l ≡ take k l
 take-least k n l e = go (dec_le n (length l))

@@ -26,12 +26,12 @@ use Rattle.listing.specs.Listing.{call_text, response_text, line, lines, Lists}
 abbrev event : Call → Hub → Event
 event c h = record { call = c; response = (on_hub c h).response }
 
-lines_append : (es fs : List Event) → lines (es ++ fs) ≡ lines es ++ lines fs
+pub lines_append : (es fs : List Event) → lines (es ++ fs) ≡ lines es ++ lines fs
 unfolding lines
 lines_append [] fs = refl
 lines_append (e ∷ es) fs = ap (λ (t : List ℕ). line e ++ t) (lines_append es fs) ∙ sym (append_assoc (line e) (lines es) (lines fs))
 
-events_append : (h : Hub) (cs ds : List Call) → events on_hub h (cs ++ ds) ≡ events on_hub h cs ++ events on_hub (final on_hub h cs) ds
+pub events_append : (h : Hub) (cs ds : List Call) → events on_hub h (cs ++ ds) ≡ events on_hub h cs ++ events on_hub (final on_hub h cs) ds
 unfolding events final
 events_append h [] ds = refl
 events_append h (c ∷ cs) ds = ap (λ (es : List Event). event c h ∷ es) (events_append (on_hub c h).after cs ds)
@@ -49,9 +49,16 @@ pub final_none : (h : Hub) → final on_hub h [] ≡ h
 unfolding final
 final_none h = refl
 
+pub events_none : (h : Hub) → events on_hub h [] ≡ []
+unfolding events
+events_none h = refl
+
 pub lines_none : (h : Hub) → lines (events on_hub h []) ≡ []
 unfolding events lines
 lines_none h = refl
+
+-- by these, what calls that are made one after the other got is one list
+pub ruleset got = (final_none, events_none, final_more, events_append)
 
 -- by these, calls that are made one after the other are one list
 pub ruleset lists = (final_none, lines_none, final_more, lines_more)

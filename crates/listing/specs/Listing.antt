@@ -9,6 +9,7 @@ use Rattle.script.specs.Text.{text, space, newline}
 use Rattle.script.specs.Number.{decimal}
 use Rattle.script.specs.Hex.{bytes_text}
 use Rattle.script.specs.Writing.{Puts}
+use Rattle.listing.specs.declared.Fields.{Fields}
 use Rattle.listing.specs.declared.Listing.{Listing}
 
 -- ---- a line
@@ -46,6 +47,10 @@ unfoldable pub answer_text : Answer → List ℕ
 answer_text a =
     numbered (text " refusal") a.refusal ++ numbered (text " ticket") a.ticket ++ numbered (text " runs") a.runs ++ numbered (text " passed") (bit a.passed) ++
     numbered (text " sum") a.sum
+
+-- the answer that has these fields
+abbrev pub answer_with : Fields → Answer
+answer_with f = record { refusal = f.refusal; ticket = f.ticket; runs = f.runs; passed = f.passed; sum = f.sum }
 
 -- what it gave, to the line's end
 unfoldable pub response_text : Response → List ℕ

@@ -38,32 +38,22 @@ fn put_numbered(out: &mut Writer, name: &[u8], n: u64)
     put_number(out, n);
 }
 
-// The fields that are listed of an answer: document 01's five, as numbers and a verdict, since they are only printed. Those that it does not have are 0.
+// The fields that are listed of an answer: document 01's five, as numbers and a verdict, since they are only printed. Those that an answer does not have are 0; a line
+// may be of any.
 #[derive(Clone, Copy, Default)]
-struct Fields {
-    refusal: u32,
-    ticket: u32,
-    runs: u64,
-    passed: bool,
-    sum: u64,
+pub struct Fields {
+    pub refusal: u32,
+    pub ticket: u32,
+    pub runs: u64,
+    pub passed: bool,
+    pub sum: u64,
 }
 
-#[tactic(auto, using(script::proofs::Texts::parts), unfolding(crate::specs::Listing::answer_text))]
-fn put_fields(out: &mut Writer, fields: Fields)
-    ensures { Puts (spec.answer_text (record { refusal = fields.refusal; ticket = fields.ticket; runs = fields.runs; passed = fields.passed; sum = fields.sum })) out.old out.new }
-{
-    put_numbered(out, b" refusal", u64::from(fields.refusal));
-    put_numbered(out, b" ticket", u64::from(fields.ticket));
-    put_numbered(out, b" runs", fields.runs);
-    put_numbered(out, b" passed", u64::from(fields.passed));
-    put_numbered(out, b" sum", fields.sum);
-}
-
-fn put_answer(out: &mut Writer, answer: Answer)
-    ensures { Puts (spec.answer_text (answer_of answer)) out.old out.new }
+fn fields_of(answer: Answer) -> Fields
+    ensures { spec.answer_with result ≡ answer_of answer }
 {
     let none = Fields::default();
-    let fields = match answer {
+    match answer {
         Ok(Accepted::Opened { ticket, runs }) => Fields {
             ticket,
             runs,
@@ -80,17 +70,27 @@ fn put_answer(out: &mut Writer, answer: Answer)
             refusal: refusal.number(),
             ..none
         },
-    };
-    put_fields(out, fields);
+    }
+}
+
+#[tactic(auto, using(script::proofs::Texts::parts), unfolding(crate::specs::Listing::answer_text))]
+fn put_fields(out: &mut Writer, fields: Fields)
+    ensures { Puts (spec.answer_text (spec.answer_with fields)) out.old out.new }
+{
+    put_numbered(out, b" refusal", u64::from(fields.refusal));
+    put_numbered(out, b" ticket", u64::from(fields.ticket));
+    put_numbered(out, b" runs", fields.runs);
+    put_numbered(out, b" passed", u64::from(fields.passed));
+    put_numbered(out, b" sum", fields.sum);
 }
 
 // The answer, the buffer as the call leaves it, and the line's end.
 #[tactic(auto, using(script::proofs::Texts::parts), unfolding(crate::specs::Listing::response_text))]
-fn put_response(out: &mut Writer, answer: Answer, buffer: &[u8])
-    ensures { Puts (spec.response_text (record { answer = answer_of answer; buffer = buffer.now })) out.old out.new }
+fn put_response(out: &mut Writer, fields: Fields, buffer: &[u8])
+    ensures { Puts (spec.response_text (record { answer = spec.answer_with fields; buffer = buffer.now })) out.old out.new }
 {
     out.put_bytes(b" =");
-    put_answer(out, answer);
+    put_fields(out, fields);
     put_hex_field(out, buffer);
     out.put_byte(b'\n');
 }
@@ -104,13 +104,20 @@ pub fn put_call(out: &mut Writer, name: &[u8], number: u32, bytes: &[u8])
     put_hex_field(out, bytes);
 }
 
-// The line of a call to which no buffer is lent.
+// The line of a call to which no buffer is lent, whatever five fields stand in it.
 #[tactic(auto, using(script::proofs::Texts::parts))]
+pub fn put_fields_line(out: &mut Writer, name: &[u8], number: u32, bytes: &[u8], fields: Fields)
+    ensures { Puts (spec.three_fields name.now number bytes.now ++ spec.response_text (record { answer = spec.answer_with fields; buffer = [] })) out.old out.new }
+{
+    put_call(out, name, number, bytes);
+    put_response(out, fields, b"");
+}
+
+// The same, with the answer of a call.
 pub fn put_line(out: &mut Writer, name: &[u8], number: u32, bytes: &[u8], answer: Answer)
     ensures { Puts (spec.three_fields name.now number bytes.now ++ spec.response_text (record { answer = answer_of answer; buffer = [] })) out.old out.new }
 {
-    put_call(out, name, number, bytes);
-    put_response(out, answer, b"");
+    put_fields_line(out, name, number, bytes, fields_of(answer));
 }
 
 // ---- the calls
@@ -130,7 +137,7 @@ impl Listing<'_, '_> {
     fn took(&mut self, reply: Reply, buffer: &[u8])
         ensures { spec.Listed (spec.response_text (record { answer = answer_of reply.answer; buffer = buffer.now })) reply.hub self.old self.new }
     {
-        put_response(self.out, reply.answer, buffer);
+        put_response(self.out, fields_of(reply.answer), buffer);
         self.hub = reply.hub;
     }
 

@@ -1,77 +1,118 @@
--- The answers that are kept list the rounds: what is written by them is what the calls got.
+-- The answers that are kept of rounds are those of their calls, and what is written by them is what the calls got.
 -- Assumes nothing.
 use mathlib.Core.Path.{◌≡◌, refl, sym, ap, ◌∙◌}
-use mathlib.Core.List.{List, [], ◌∷◌, ◌++◌, append-nil, append_assoc}
+use mathlib.Core.Bool.{Bool, true, ◌&&◌}
+use mathlib.Core.List.{List, [], ◌∷◌, ◌++◌, append-nil}
 use Prim.Native.Nat.{ℕ, suc, ◌+◌, ◌<◌, ◌≤◌}
 use native.Mathlib.Numerals.{add-one}
 use native.Mathlib.Omega.{arith}
 use lib.ListN.{length, get_or, set, take}
 use lib.Seq.{take_all, length-take-le, take-suc-set}
+use Rattle.std.proofs.Math.Bool.{and-true, and_assoc}
 use Rattle.std.proofs.lemmas.List.{take_more}
-use Rattle.calls.specs.Answer.{answer_of}
-use Rattle.calls.specs.Call.{Call, Feed, Close, events, final}
+use Rattle.calls.specs.Answer.{Answer, answer_of, of_count}
+use Rattle.calls.specs.Call.{Feed, Close, Step, Event, events, final}
 use Rattle.hub.specs.declared.Hub.{Hub}
 use Rattle.hub.specs.Hub.{feed_hub, close_hub, on_hub}
 use Rattle.script.specs.declared.writer.Writer.{Writer}
 use Rattle.script.specs.Writing.{Puts}
 use Rattle.script.proofs.Texts.{puts_more}
 use Rattle.listing.specs.Listing.{line, lines}
-use Rattle.listing.proofs.Lists.{after_one, line_of, lines_more, feed_leaves, close_leaves}
+use Rattle.listing.proofs.Lists.{lines_append, feed_leaves, close_leaves}
 use Rattle.mainloop.specs.declared.Answered.{Answered}
 use Rattle.mainloop.specs.Rounds.{feed_ticket, close_ticket}
-use Rattle.mainloop.specs.Kept.{round_text, rounds_text}
+use Rattle.mainloop.specs.Kept.{round_events, events_kept, of_their_calls, round_text, rounds_text}
 
 -- ---- what is kept of some rounds, and of the round after them
 
-kept_more : (i : ℕ) (bytes : List ℕ) (some : List Answered) (a : Answered)
-    → rounds_text i bytes (some ++ (a ∷ [])) ≡ rounds_text i bytes some ++ round_text (i + length some) bytes (answer_of a.fed) (answer_of a.closed)
-unfolding rounds_text
-kept_more i bytes [] a = let e : i + 0 ≡ i = omega arith in rw e (append-nil (round_text i bytes (answer_of a.fed) (answer_of a.closed)))
-kept_more i bytes (b ∷ some) a =
+events_more : (i : ℕ) (bytes : List ℕ) (some : List Answered) (a : Answered)
+    → events_kept i bytes (some ++ (a ∷ [])) ≡ events_kept i bytes some ++ round_events (i + length some) bytes (answer_of a.fed) (answer_of a.closed)
+unfolding events_kept
+events_more i bytes [] a = let e : i + 0 ≡ i = omega arith in rw e refl
+events_more i bytes (b ∷ some) a =
     let e : suc i + length some ≡ i + suc (length some) = omega arith in
-    ap (λ (t : List ℕ). round_text i bytes (answer_of b.fed) (answer_of b.closed) ++ t) (kept_more (suc i) bytes some a ∙ rw e)
-    ∙ sym (append_assoc (round_text i bytes (answer_of b.fed) (answer_of b.closed)) (rounds_text (suc i) bytes some) (round_text (i + suc (length some)) bytes (answer_of a.fed) (answer_of a.closed)))
+    ap (λ (es : List Event). round_events i bytes (answer_of b.fed) (answer_of b.closed) ++ es) (events_more (suc i) bytes some a ∙ rw e)
 
-kept_behind : (bytes : List ℕ) (kept : List Answered) (i : ℕ) (a : Answered) → i < length kept
-    → rounds_text 0 bytes (take i kept ++ (a ∷ [])) ≡ rounds_text 0 bytes (take i kept) ++ round_text i bytes (answer_of a.fed) (answer_of a.closed)
-kept_behind bytes kept i a h =
+events_behind : (bytes : List ℕ) (kept : List Answered) (i : ℕ) (a : Answered) → i < length kept
+    → events_kept 0 bytes (take i kept ++ (a ∷ [])) ≡ events_kept 0 bytes (take i kept) ++ round_events i bytes (answer_of a.fed) (answer_of a.closed)
+events_behind bytes kept i a h =
     let n : 0 + length (take i kept) ≡ i = omega (arith, length-take-le i kept) in
-    kept_more 0 bytes (take i kept) a ∙ rw n
+    events_more 0 bytes (take i kept) a ∙ rw n
 
-pub kept_none : (bytes : List ℕ) → rounds_text 0 bytes [] ≡ []
-unfolding rounds_text
+pub kept_none : (bytes : List ℕ) → events_kept 0 bytes [] ≡ []
+unfolding events_kept
 kept_none bytes = refl
 
 pub kept_next : (bytes : List ℕ) (kept : List Answered) (i : ℕ) (a : Answered) → i < length kept
-    → rounds_text 0 bytes (take (i + 1) (set kept i a)) ≡ rounds_text 0 bytes (take i kept) ++ round_text i bytes (answer_of a.fed) (answer_of a.closed)
-kept_next bytes kept i a h = rw (add-one, take-suc-set kept i a h) (kept_behind bytes kept i a h)
+    → events_kept 0 bytes (take (i + 1) (set kept i a)) ≡ events_kept 0 bytes (take i kept) ++ round_events i bytes (answer_of a.fed) (answer_of a.closed)
+kept_next bytes kept i a h = rw (add-one, take-suc-set kept i a h) (events_behind bytes kept i a h)
 
-pub kept_all : (bytes : List ℕ) (kept : List Answered) (i : ℕ) → length kept ≤ i → rounds_text 0 bytes (take i kept) ≡ rounds_text 0 bytes kept
-kept_all bytes kept i h = ap (rounds_text 0 bytes) (take_all i kept h)
+pub kept_all : (bytes : List ℕ) (kept : List Answered) (i : ℕ) → length kept ≤ i → events_kept 0 bytes (take i kept) ≡ events_kept 0 bytes kept
+kept_all bytes kept i h = ap (events_kept 0 bytes) (take_all i kept h)
+
+-- ---- each is an answer of its call's kind
+
+kinds_more : (some : List Answered) (a : Answered) → of_their_calls (some ++ (a ∷ [])) ≡ of_their_calls some && (of_count a.fed && of_count a.closed)
+unfolding of_their_calls
+kinds_more [] a = and-true (of_count a.fed && of_count a.closed)
+kinds_more (b ∷ some) a = ap (λ (r : Bool). (of_count b.fed && of_count b.closed) && r) (kinds_more some a) ∙ sym (and_assoc (of_count b.fed && of_count b.closed) (of_their_calls some) (of_count a.fed && of_count a.closed))
+
+pub kinds_none : of_their_calls [] ≡ true
+unfolding of_their_calls
+kinds_none = refl
+
+pub kinds_next : (kept : List Answered) (i : ℕ) (a : Answered) → i < length kept
+    → of_their_calls (take (i + 1) (set kept i a)) ≡ of_their_calls (take i kept) && (of_count a.fed && of_count a.closed)
+kinds_next kept i a h = rw (add-one, take-suc-set kept i a h) (kinds_more (take i kept) a)
+
+pub kinds_all : (kept : List Answered) (i : ℕ) → length kept ≤ i → of_their_calls (take i kept) ≡ of_their_calls kept
+kinds_all kept i h = ap of_their_calls (take_all i kept h)
+
+-- ---- what is listed of them
+
+round_lines : (i : ℕ) (bytes : List ℕ) (fed closed : Answer) → lines (round_events i bytes fed closed) ≡ round_text i bytes fed closed
+unfolding lines round_text
+round_lines i bytes fed closed =
+    let e : Event = record { call = Feed (feed_ticket i) bytes; response = record { answer = fed; buffer = [] } } in
+    let f : Event = record { call = Close (close_ticket i); response = record { answer = closed; buffer = [] } } in
+    ap (λ (t : List ℕ). line e ++ t) (append-nil (line f))
+
+pub text_none : (bytes : List ℕ) → rounds_text 0 bytes [] ≡ []
+unfolding events_kept lines
+text_none bytes = refl
+
+pub text_all : (bytes : List ℕ) (kept : List Answered) (i : ℕ) → length kept ≤ i → rounds_text 0 bytes (take i kept) ≡ rounds_text 0 bytes kept
+text_all bytes kept i h = ap lines (kept_all bytes kept i h)
+
+text_behind : (bytes : List ℕ) (kept : List Answered) (i : ℕ) (a : Answered) → i < length kept
+    → rounds_text 0 bytes (take i kept ++ (a ∷ [])) ≡ rounds_text 0 bytes (take i kept) ++ round_text i bytes (answer_of a.fed) (answer_of a.closed)
+text_behind bytes kept i a h =
+    ap lines (events_behind bytes kept i a h)
+    ∙ lines_append (events_kept 0 bytes (take i kept)) (round_events i bytes (answer_of a.fed) (answer_of a.closed))
+    ∙ ap (λ (t : List ℕ). rounds_text 0 bytes (take i kept) ++ t) (round_lines i bytes (answer_of a.fed) (answer_of a.closed))
 
 pub listed_next : (bytes : List ℕ) (kept : List Answered) (i : ℕ) (a : Answered) {w v u : Writer} → i < length kept
     → Puts (rounds_text 0 bytes (take i kept)) w v → Puts (round_text i bytes (answer_of (get_or kept i a).fed) (answer_of (get_or kept i a).closed)) v u
     → Puts (rounds_text 0 bytes (take (i + 1) kept)) w u
-listed_next bytes kept i a h some next = rw (take_more kept i a h, kept_behind bytes kept i (get_or kept i a) h) (puts_more some next)
+listed_next bytes kept i a h some next = rw (take_more kept i a h, text_behind bytes kept i (get_or kept i a) h) (puts_more some next)
 
--- ---- what the two calls of a round leave, and how they are listed
+-- ---- what the two calls of a round leave, and what they are answered
 
 module _ (i : ℕ) (bytes : List ℕ) (h : Hub) where
   pub round_after : final on_hub h (Feed (feed_ticket i) bytes ∷ Close (close_ticket i) ∷ []) ≡ (close_hub (close_ticket i) (feed_hub (feed_ticket i) bytes h).after).after
   unfolding final on_hub
   round_after = refl
 
-  pub round_listed : lines (events on_hub h (Feed (feed_ticket i) bytes ∷ Close (close_ticket i) ∷ []))
-      ≡ round_text i bytes (feed_hub (feed_ticket i) bytes h).response.answer (close_hub (close_ticket i) (feed_hub (feed_ticket i) bytes h).after).response.answer
-  unfolding round_text line on_hub
-  round_listed =
-      let feed : Call = Feed (feed_ticket i) bytes in
-      let close : Call = Close (close_ticket i) in
-      let g : Hub = (feed_hub (feed_ticket i) bytes h).after in
-      lines_more h (feed ∷ []) (close ∷ [])
-      ∙ rw (after_one feed h, line_of feed h, line_of close g, feed_leaves (feed_ticket i) bytes h, close_leaves (close_ticket i) g)
+  pub round_answered : events on_hub h (Feed (feed_ticket i) bytes ∷ Close (close_ticket i) ∷ [])
+      ≡ round_events i bytes (feed_hub (feed_ticket i) bytes h).response.answer (close_hub (close_ticket i) (feed_hub (feed_ticket i) bytes h).after).response.answer
+  unfolding events on_hub
+  round_answered j =
+      let fed : Step Hub = feed_hub (feed_ticket i) bytes h in
+      let closed : Step Hub = close_hub (close_ticket i) fed.after in
+      record { call = Feed (feed_ticket i) bytes; response = record { answer = fed.response.answer; buffer = feed_leaves (feed_ticket i) bytes h j } } ∷
+      record { call = Close (close_ticket i); response = record { answer = closed.response.answer; buffer = close_leaves (close_ticket i) fed.after j } } ∷ []
 
 -- by these, the rounds' answers that were kept and those of the next round are all
-pub ruleset rounds_kept = (kept_none, kept_next, kept_all, round_after, round_listed)
+pub ruleset rounds_kept = (kept_none, kept_next, kept_all, kinds_none, kinds_next, kinds_all, round_after, round_answered)
 
-pub ruleset rounds_listed = (kept_none, kept_all)
+pub ruleset rounds_listed = (text_none, text_all)

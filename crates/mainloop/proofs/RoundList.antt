@@ -1,10 +1,11 @@
--- The calls of a loop, one more at each turn.
+-- The calls of a loop, one more at each turn, and that no draw is left behind the last.
 -- Assumes nothing.
 use mathlib.Core.Path.{◌≡◌, refl, ap, ◌∙◌}
 use mathlib.Core.List.{List, [], ◌∷◌, ◌++◌}
 use Prim.Native.Nat.{ℕ, zero, suc, ◌+◌, ◌-◌, ◌≤◌}
 use native.Mathlib.Omega.{arith}
 use Rattle.calls.specs.Call.{Call, Feed, Draw, Close}
+use Rattle.calls.proofs.Repeats.{none_left}
 use Rattle.mainloop.specs.Rounds.{feed_ticket, close_ticket, rounds_from, lent_out, draws_from}
 
 -- ---- rounds
@@ -44,6 +45,11 @@ draw_next t h =
     let e : t + 1 - 1 ≡ suc (t - 1) = omega arith in
     let k : 1 + (t - 1) ≡ t = omega arith in
     rw e (draws_more 1 (t - 1) ∙ rw k)
+
+-- no draw is left
+pub no_draw_left : (t : ℕ) → 26 ≤ t → draws_from t (26 - t) ≡ []
+unfolding draws_from
+no_draw_left t l = rw (none_left 26 t l)
 
 -- by these, the rounds that were made and those that are made next are one list; and the draws
 pub ruleset rounds_made = (no_round, round_next)

@@ -3,13 +3,13 @@
 // out anew.
 #![tactic(auto)]
 
-ghost use Rattle.std.specs.Prelude.{◌≡◌, [], ◌∷◌, length, replicate};
-ghost use Rattle.calls.specs.Answer.{answer_of};
+ghost use Rattle.std.specs.Prelude.{◌≡◌, [], ◌∷◌, length, replicate, IsTrue};
+ghost use Rattle.calls.specs.Answer.{answer_of, of_count};
 ghost use Rattle.calls.specs.Call.{Open, Draw, events, final};
 ghost use Rattle.hub.specs.Hub.{feed_hub, close_hub, on_hub};
 ghost use Rattle.script.specs.Text.{Wrote};
 ghost use Rattle.script.specs.Writing.{Puts};
-ghost use Rattle.listing.specs.Listing.{Lists, lines};
+ghost use Rattle.listing.specs.Listing.{Lists};
 ghost use Rattle.mainloop.specs.Kept as kept;
 ghost use Rattle.mainloop.specs.Rounds as spec;
 
@@ -29,10 +29,12 @@ const ROUNDS: usize = 150;
 trait Calling {
     fn feed(hub: &mut Hub, ticket: u32, bytes: &[u8]) -> Answer
         ensures answer { answer_of result ≡ (feed_hub ticket bytes.now hub.old).response.answer }
+        ensures kind { IsTrue (of_count result) }
         ensures after { hub.new ≡ (feed_hub ticket bytes.now hub.old).after };
 
     fn close(hub: &mut Hub, ticket: u32) -> Answer
         ensures answer { answer_of result ≡ (close_hub ticket hub.old).response.answer }
+        ensures kind { IsTrue (of_count result) }
         ensures after { hub.new ≡ (close_hub ticket hub.old).after };
 }
 
@@ -88,10 +90,11 @@ struct Answered {
 }
 
 // A round for each place that its answers are kept in. The hub after them is given back.
-#[tactic(auto, using(listing::proofs::Lists::lists, crate::proofs::RoundList::rounds_made, crate::proofs::Kept::rounds_kept))]
+#[tactic(auto, using(listing::proofs::Lists::got, crate::proofs::RoundList::rounds_made, crate::proofs::Kept::rounds_kept))]
 fn serve<C: Calling>(mut hub: Hub, bytes: &[u8], answers: &mut [Answered]) -> Hub
     ensures hub { result ≡ final on_hub hub (spec.rounds_from 0 (length answers.old) bytes.now) }
-    ensures answers { kept.rounds_text 0 bytes.now answers.new ≡ lines (events on_hub hub (spec.rounds_from 0 (length answers.old) bytes.now)) }
+    ensures answers { kept.events_kept 0 bytes.now answers.new ≡ events on_hub hub (spec.rounds_from 0 (length answers.old) bytes.now) }
+    ensures kinds { IsTrue (kept.of_their_calls answers.new) }
 {
     for (i, answered) in answers.iter_mut().enumerate() {
         let fed = C::feed(&mut hub, feed_ticket(i), bytes);

@@ -24,6 +24,7 @@ pub record Rates (w : Row) : Type 0 where
   pub feeds-word : 8 ≤ w.feed_rate
   pub draws-word : 8 ≤ w.draw_rate
   -- a block lies in the forty bytes of the state
+  pub feeds-inside : w.feed_rate ≤ 40
   pub draws-inside : w.draw_rate ≤ 40
   -- the feed rate divides 2 ^ 64, so that a length that wraps leaves each place in a block right
   pub wraps : (n : ℕ) → n % 2 ^ 64 % w.feed_rate ≡ n % w.feed_rate

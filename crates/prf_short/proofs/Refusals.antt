@@ -1,12 +1,13 @@
 -- What a call of the short function gives, case by case, with the numbers of document 01's "Refused": the answer, and the buffer afterwards.
 -- For the reader, but for `well_lent` and `short-done`, which the proofs of crate `vectors` cite.
 -- Assumes nothing.
-use mathlib.Core.Bool.{true, false}
+use mathlib.Core.Bool.{Bool, true, false, true≢false, not, ◌||◌}
 use mathlib.Core.Logic.{◌≢◌}
 use mathlib.Core.Path.{◌≡◌, refl}
 use mathlib.Core.List.{List}
 use Prim.Native.Nat.{ℕ, ◌≤◌, ◌<◌}
-use borrow.Author.Tests.{eq-eqb, ne_eqb, lt-ltb, le-ltb}
+use borrow.Author.Tests.{ltb-false, eqb-true, eq-eqb, ne_eqb, lt-ltb, le-ltb}
+use lib.Dec.{eqb, ltb}
 use lib.ListN.{length}
 use Rattle.prf_short.specs.Short.{prf_short}
 use Rattle.prf_short.specs.Call.{wrong_output, short_checks, short_answer, short_after}
@@ -24,6 +25,16 @@ others-lent lent t h h' n = rw (le-ltb t 1 h, le-ltb 16 t h', ne_eqb lent t n)
 
 pub well_lent : (lent t : ℕ) → 1 ≤ t → t ≤ 16 → lent ≡ t → wrong_output lent t ≡ false
 well_lent lent t h h' e = rw (le-ltb t 1 h, le-ltb 16 t h', eq-eqb lent t e)
+
+-- nothing is wrong: both are the same, and at most 16
+pub lent_is : (lent t : ℕ) → wrong_output lent t ≡ false → (lent ≡ t) × (t ≤ 16)
+lent_is lent t e = go (ltb t 1) (ltb 16 t) refl (eqb lent t) refl e
+  where
+    go : (a b : Bool) → ltb 16 t ≡ b → (c : Bool) → eqb lent t ≡ c → a || (b || not c) ≡ false → (lent ≡ t) × (t ≤ 16)
+    go false false y true z h = (eqb-true lent t z, ltb-false 16 t y)
+    go false false y false z h = absurd (true≢false h)
+    go false true y c z h = absurd (true≢false h)
+    go true b y c z h = absurd (true≢false h)
 
 -- ---- the call
 

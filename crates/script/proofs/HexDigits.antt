@@ -1,6 +1,7 @@
 -- Hexadecimal digits: what is written is read back, and what is read is written so. 48 is `0`, 57 `9`, 97 `a`, and 102 `f`.
 -- Assumes nothing.
 use mathlib.Core.Path.{◌≡◌, refl, sym, ap, ◌∙◌}
+use mathlib.Core.Logic.{◌⊎◌, inl, inr}
 use mathlib.Core.Bool.{true, ◌&&◌, false≢true}
 use mathlib.Core.List.{List, [], ◌∷◌}
 use Prim.Native.Nat.{ℕ, ◌+◌, ◌-◌, ◌*◌, ◌/◌, ◌%◌, ◌≤◌, ◌<◌}
@@ -34,6 +35,12 @@ nibble-between c h k = rw (le-leb 48 c (omega arith), lt-leb c 57 h, lt-leb 97 c
 nibble-high : (c : ℕ) → 102 < c → nibble c ≡ 16
 unfolding nibble
 nibble-high c h = rw (le-leb 48 c (omega arith), lt-leb c 57 (omega arith), le-leb 97 c (omega arith), lt-leb c 102 h)
+
+-- a byte that is no digit
+pub nibble-other : (c : ℕ) → (c < 48) ⊎ (57 < c) → (c < 97) ⊎ (102 < c) → nibble c ≡ 16
+nibble-other c (inl h) k = nibble-low c h
+nibble-other c (inr h) (inl k) = nibble-between c h k
+nibble-other c (inr h) (inr k) = nibble-high c k
 
 -- a digit is one of ten or one of six
 pub digit_least : (c : ℕ) → nibble c < 16 → c ≤ 57 → 48 ≤ c

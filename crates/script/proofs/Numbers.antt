@@ -59,6 +59,18 @@ pub no-start : (s : List ℕ) → plain_start s ≡ false → number_of s ≡ No
 unfolding number_of is_number
 no-start s p = rw p
 
+pub no_digits : (s : List ℕ) → plain_start s ≡ true → all_digits s ≡ false → number_of s ≡ None
+unfolding number_of is_number
+no_digits s p d = rw (p, d)
+
+pub no_range : (s : List ℕ) → plain_start s ≡ true → most_number < value_from 0 s → number_of s ≡ None
+unfolding number_of is_number
+no_range s p v = rw (p, lt-leb (value_from 0 s) most_number v) (drops (all_digits s))
+  where
+    drops : (t : Bool) → cond (t && false) (Some (value_from 0 s)) None ≡ None
+    drops true = refl
+    drops false = refl
+
 pub number-start : (s : List ℕ) → plain_start s ≡ true → number_of s ≡ number_from 0 s
 unfolding number_of is_number number_from
 number-start s p = rw p

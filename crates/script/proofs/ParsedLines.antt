@@ -5,13 +5,13 @@ use mathlib.Core.List.{List}
 use Prim.Native.Nat.{ℕ, ◌+◌, ◌≤◌}
 use native.Mathlib.Omega.{arith}
 use lib.ListN.{length, take, drop}
-use lib.Seq.{sets, sets-eq, take_at}
+use lib.Seq.{sets, sets-eq, take_at, length-sets}
 use Rattle.script.specs.declared.line.Verb.{Verb}
 use Rattle.script.specs.declared.line.Verb.TheVariants.{Open, Feed, Draw, Check, Close, Sum}
 use Rattle.script.specs.declared.line.Parsed.{Parsed}
 use Rattle.std.specs.Prelude.{Option, Some, None}
 use Rattle.script.specs.Line.{most_bytes, Line, Field, bytes, count, SomeBytes, NoBytes, ACount, FieldFits, Valid, field_of, with_field, parse}
-use Rattle.script.specs.Parsed.{field_in, line_with, size_of, bytes_in, parsed_of, size_read, buffer_with}
+use Rattle.script.specs.Parsed.{field_in, line_with, line_in, size_of, bytes_in, parsed_of, buffer_after, size_read, buffer_with}
 use Rattle.script.proofs.Texts.{none-some}
 use Rattle.script.proofs.RoundTrip.{read-printed}
 
@@ -44,6 +44,18 @@ module _ (d : List ℕ) (room : length d ≡ most_bytes) where
 
   line-from : (l : Line) → Valid l → line_with l.verb l.number (size_of l.field) (sets d 0 (bytes_in l.field)) ≡ l
   line-from l h = ap (λ (f : Field). record { verb = l.verb; number = l.number; field = f }) (field-from l.verb l.number l.field h.field)
+
+  from-read : (s : List ℕ) (r : Option Line) → parse s ≡ r → line_in (parsed_of r) (buffer_after d r) ≡ r
+  from-read s (Some l) e = ap Some (line-from l (read-printed s l e).1)
+  from-read s None e = refl
+
+  -- an answer and the buffer stand for the line that was read
+  pub nothing_lost : (s : List ℕ) → line_in (parsed_of (parse s)) (buffer_after d (parse s)) ≡ parse s
+  nothing_lost s = from-read s (parse s) refl
+
+  -- so what `parse_line` answers, with the buffer that it leaves, stands for the line
+  pub parsed_line : (s : List ℕ) (p : Option Parsed) (e : List ℕ) → p ≡ parsed_of (parse s) → e ≡ buffer_after d (parse s) → line_in p e ≡ parse s
+  parsed_line s p e answer buffer = rw (answer, buffer) (nothing_lost s)
 
   -- an answer that is put together from a verb, a number and what was read of the third field stands, with the buffer, for the line
   pub line-read : (s t e : List ℕ) (v : Verb) (n k : ℕ)
@@ -89,3 +101,8 @@ parsed-size s p e = go (parse s) refl e
         let w : size_of l.field ≡ p.size = cc in
         omega (arith, w, field-size l.verb l.number l.field (read-printed s l q).1.field)
     go None q f = absurd (none-some f)
+
+-- the buffer keeps its length
+pub buffer-length : (d : List ℕ) (r : Option Line) → length (buffer_after d r) ≡ length d
+buffer-length d (Some l) = length-sets d 0 (bytes_in l.field)
+buffer-length d None = refl

@@ -258,7 +258,13 @@ none-back s f e =
     let p = only (is_dash s) (bytes []) f e in
     subst (λ (g : Field). (s ≡ field_text g) × NoBytes g) p.1 (dash-text s p.0, refl)
 
-bytes-text-some : (s : List ℕ) → (length s ≡ 0 → ⊥) → bytes_text s ≡ hex_of s
+-- bytes as text: a dash where there are none, and digits where there are some
+pub bytes-text-none : (s : List ℕ) → length s ≡ 0 → bytes_text s ≡ dash ∷ []
+unfolding bytes_text
+bytes-text-none [] e = refl
+bytes-text-none (a ∷ s) e = absurd (omega arith)
+
+pub bytes-text-some : (s : List ℕ) → (length s ≡ 0 → ⊥) → bytes_text s ≡ hex_of s
 unfolding bytes_text
 bytes-text-some [] h = absurd (h refl)
 bytes-text-some (a ∷ s) h = refl

@@ -10,7 +10,7 @@ use native.Mathlib.Omega.{arith}
 use native.Mathlib.Decide.{dec_le}
 use lib.Dec.{eqb, ltb}
 use lib.ListN.{length, get_or, set, take, drop, take-append-drop, length-append, drop_of_length-le}
-use lib.Seq.{take_all, length-take-le, set_out, sets, length-sets, drop-drop}
+use lib.Seq.{take_all, take-suc, length-take-le, set_out, sets, length-sets, drop-drop}
 use Rattle.std.proofs.lemmas.List.Edits.{sets-eq}
 use borrow.Author.Tests.{eqb-true, ltb-false}
 use Rattle.std.specs.Prelude.{Option, Some, None}
@@ -141,6 +141,12 @@ sets_append : (t u l : List ℕ) (i : ℕ) → sets l i (t ++ u) ≡ sets (sets 
 sets_append [] u l i = rw add-zero
 sets_append (a ∷ t) u l i = rw (add-suc, ← (suc-add i (length t))) (sets_append t u (set l i a) (suc i))
 
+-- one byte more is stored
+pub sets-next : (l u : List ℕ) (at i : ℕ) → i < length u → set (sets l at (take i u)) (at + i) (get_or u i 0) ≡ sets l at (take (i + 1) u)
+sets-next l u at i h =
+    let n : length (take i u) ≡ i = length-take-le i u (omega arith) in
+    rw (add-one, take-suc u i 0, sets_append (take i u) (get_or u i 0 ∷ []) l at, n)
+
 -- what does not fit is left out
 sets-fitting : (l u : List ℕ) (at n : ℕ) → n ≡ min (length u) (length l - at) → sets l at (take n u) ≡ sets l at u
 sets-fitting l u at n e = go (dec_le (length u) n)
@@ -189,6 +195,11 @@ pub ruleset parts = (put_more, past_more, put_first, past_first)
 pub wrote_none : (l : List ℕ) (at n : ℕ) → n ≡ min at (length l) → Wrote l at [] l n
 unfolding put past
 wrote_none l at n e = record { bytes = refl; place = omega arith }
+
+-- past the end nothing changes
+pub wrote_past : (l t : List ℕ) (at : ℕ) → length l ≤ at → Wrote l at t l (length l)
+unfolding put past
+wrote_past l t at h = record { bytes = sym (sets_past t l at h); place = omega arith }
 
 -- the buffer keeps its length
 pub wrote-length : {l t l' : List ℕ} {at n : ℕ} → Wrote l at t l' n → length l' ≡ length l

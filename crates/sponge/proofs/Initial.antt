@@ -1,17 +1,23 @@
--- The initial state of a mode is made by xoring the key in behind the start word, as the code goes. That its words, read as bytes, are the forty bytes of
--- specs/Sponge.antt is `start-read` of state/proofs/Starts.antt.
+-- The initial state of a mode: that its words, read as bytes, are the forty bytes of specs/Sponge.antt, for the reader; and that it is made by xoring the key in behind the
+-- start word, as the code goes.
 -- Assumes nothing.
-use Rattle.std.proofs.Common.{◌≡◌, ℕ, ◌^◌, ◌<◌, ◌≤◌, List, [], ◌∷◌, length, take, refl, ap, ◌∙◌, arith, length-take}
+use Rattle.std.proofs.Common.{◌≡◌, ℕ, ◌^◌, ◌<◌, ◌≤◌, List, [], ◌∷◌, ◌++◌, length, take, refl, ap, ◌∙◌, arith, length-take}
 use lib.Bits.{bit_xor, xor_zero_r}
-use Rattle.word.specs.Bytes.{xor_from, window, to_bytes}
+use Rattle.word.specs.Bytes.{bytes_from, xor_from, window, to_bytes, zeros_to}
 use Rattle.word.proofs.Arrays.{cons_same}
 use Rattle.word.proofs.Windows.{window_past, window-before, window-moved, xor_from-words}
 use Rattle.word.proofs.Bytes.{Bytes, part_bytes, number-bytes, number_read}
-use Rattle.state.proofs.Starts.{start_xored}
+use Rattle.state.proofs.Starts.{start-read, start_xored}
 use Rattle.mode.specs.declared.Mode.{Mode}
-use Rattle.mode.specs.Mode.{row}
+use Rattle.mode.specs.Mode.{Row, row}
 use Rattle.mode.proofs.Modes.{limits}
 use Rattle.sponge.specs.Sponge.{initial}
+
+pub initial-bytes : (w : Row) (key : List ℕ) → Bytes key → length (take w.key_length key) ≤ 32
+    → bytes_from 0 40 (initial w key) ≡ zeros_to 40 (to_bytes 8 w.start_word ++ take w.key_length key)
+unfolding initial to_bytes
+initial-bytes w key bytes short =
+    start-read (to_bytes 8 w.start_word) (take w.key_length key) refl short (number-bytes 8 w.start_word) (part_bytes w.key_length 0 key bytes)
 
 -- what is taken of a key fits into the two words behind the start word
 key_fits : (mode : Mode) (key : List ℕ) → length (take (row mode).key_length key) ≤ 16

@@ -1,6 +1,6 @@
 -- A part of a block that is fed or drawn at once does what its bytes do one by one. Any row with rates above 0.
 -- Assumes nothing.
-use Rattle.std.proofs.Common.{◌≡◌, ℕ, zero, suc, ◌+◌, ◌-◌, ◌%◌, ◌<◌, ◌≤◌, min, Bool, true, false, not, eqb, ◌≢◌, List, [], ◌∷◌, ◌++◌, length, take, drop, sym, refl, ap, ◌∙◌, ap₂, append_assoc, add-zero, mod-lt, mod-eq_of_lt, add-one, arith, length-append, length-drop, length-take-le, take_all, take_at, eq-eqb, ne_eqb}
+use Rattle.std.proofs.Common.{◌≡◌, ℕ, zero, suc, ◌+◌, ◌-◌, ◌%◌, ◌<◌, ◌≤◌, min, Bool, true, false, not, eqb, ◌≢◌, List, [], ◌∷◌, ◌++◌, length, take, drop, sym, refl, ap, ◌∙◌, ap₂, append_assoc, add-zero, mod-lt, mod-eq_of_lt, add-one, arith, length-append, length-drop, length-take-le, take-append-drop, drop-drop, take_all, take_at, eq-eqb, ne_eqb}
 use mathlib.Core.Bool.{and-false}
 use native.Mathlib.Nat.{suc-mod, zero-mod, add-mod_right}
 use native.Mathlib.Decide.{dec_lt, ℕ_discrete}
@@ -62,6 +62,24 @@ bare r = record { words = r.words; runs = r.runs; ticket = 0; mode = r.mode; fed
 pub absorbed-bare : (bs : List ℕ) (r : Record) → absorbed bs r ≡ after_feed (absorbed bs (bare r)).words (absorbed bs (bare r)).runs (length bs) r
 unfolding absorbed after_feed
 absorbed-bare bs r = ap (with_fed (sum64 r.fed (length bs))) (feed_bytes_core (row r.mode) bs r.fed (bare r) r)
+
+-- the next k bytes of a list, which stay in the block of number n, and then what is left of it
+pub feed-next : (w : Row) (bs : List ℕ) (n i k p : ℕ) (r : Record) → (n + i) % w.feed_rate ≡ p → p + k ≤ w.feed_rate → 0 < k → i + k ≤ length bs
+    → feed_bytes w (n + (i + k)) (drop (i + k) bs) (filled w p (take k (drop i bs)) r) ≡ feed_bytes w (n + i) (drop i bs) r
+feed-next w bs n i k p r e h some l =
+    sym (ap (λ (t : List ℕ). feed_bytes w (n + i) t r) (sym (take-append-drop k (drop i bs)) ∙ ap (λ (t : List ℕ). take k (drop i bs) ++ t) (drop-drop k i bs))
+    ∙ feed_bytes_append w (take k (drop i bs)) (drop (i + k) bs) (n + i) r
+    ∙ ap₂ (λ (m : ℕ) (x : Record). feed_bytes w m (drop (i + k) bs) x) number (go (take k (drop i bs)) count))
+  where
+    count : length (take k (drop i bs)) ≡ k
+    count = length-take-le k (drop i bs) (omega (arith, length-drop i bs))
+
+    number : n + i + length (take k (drop i bs)) ≡ n + (i + k)
+    number = omega (arith, count)
+
+    go : (part : List ℕ) → length part ≡ k → feed_bytes w (n + i) part r ≡ filled w p part r
+    go [] c = absurd (omega arith)
+    go (x ∷ part) c = feed-filled w part x (n + i) p r e (omega arith)
 
 -- Some bytes of a feed are left, once those before them are absorbed: fed to the record as it is, they give what all of them give to the first record, and the next of
 -- them goes to the place p.

@@ -8,3 +8,4 @@ pub mod Bytes
 pub mod Windows
 pub mod Xored
 pub mod WordAt
+pub mod Cases

@@ -1,10 +1,13 @@
--- Lists read and written past their end, and zeros.
+-- Lists read and written past their end and at neighbouring indices, as code does that reads or writes i, i + 1, i + 2 and so on, and zeros.
 -- Assumes nothing.
-use mathlib.Core.Path.{◌≡◌, refl, ap}
+use mathlib.Core.Path.{◌≡◌, refl, sym, ap, ◌∙◌}
 use mathlib.Core.List.{List, [], ◌∷◌, ◌++◌}
-use Prim.Native.Nat.{ℕ, zero, suc, ◌≤◌, min}
-use native.Mathlib.Nat.{not-suc-le-zero, le_of_suc-le-suc, zero-min, min-zero, suc-min-suc}
-use lib.ListN.{length, get_or, set, take, drop, replicate}
+use Prim.Native.Nat.{ℕ, zero, suc, ◌+◌, ◌≤◌, ◌<◌, min}
+use native.Mathlib.Nat.{add-suc, not-suc-le-zero, le_of_suc-le-suc, zero-min, min-zero, suc-min-suc}
+use native.Mathlib.Numerals.{add-one}
+use native.Mathlib.Omega.{arith}
+use lib.ListN.{length, get_or, set, take, drop, replicate, length-append}
+use lib.Seq.{drop-cons, sets, sets-eq, take_at, length-take-le}
 
 -- ---- past the end
 
@@ -41,3 +44,41 @@ pub then_zeros : (l : List ℕ) (n i : ℕ) → get_or (l ++ replicate n 0) i 0 
 then_zeros [] n i = zeros-at n i
 then_zeros (x ∷ l) n zero = refl
 then_zeros (x ∷ l) n (suc i) = then_zeros l n i
+
+-- ---- reads
+
+-- n elements, the first at index i + k: at numerals k and n this computes to the elements at i + k, i + (k + 1), ..
+abbrev pub elements : List ℕ → ℕ → ℕ → ℕ → List ℕ
+elements l i k zero = []
+elements l i k (suc n) = get_or l (i + k) 0 ∷ elements l i (suc k) n
+
+elements_of : (l : List ℕ) (i k n : ℕ) → i + k + n ≤ length l → take n (drop (i + k) l) ≡ elements l i k n
+elements_of l i k zero h = refl
+elements_of l i k (suc n) h =
+    let inside : i + k < length l = omega arith in
+    rw (drop-cons l (i + k) 0 inside)
+    (ap (λ (t : List ℕ). get_or l (i + k) 0 ∷ t) (ap (λ (m : ℕ). take n (drop m l)) (sym (add-suc i k)) ∙ elements_of l i (suc k) n (omega arith)))
+
+-- a part of a list, written out
+pub part-written-out : (l : List ℕ) (i n : ℕ) → i + suc n ≤ length l → take (suc n) (drop i l) ≡ get_or l i 0 ∷ elements l i 1 n
+part-written-out l i n h =
+    let inside : i < length l = omega arith in
+    rw (drop-cons l i 0 inside)
+    (ap (λ (t : List ℕ). get_or l i 0 ∷ t) (ap (λ (m : ℕ). take n (drop m l)) (sym (add-one i)) ∙ elements_of l i 1 n (omega arith)))
+
+-- ---- stores
+
+-- stores one after the other, the first at index i + k
+abbrev pub stored : List ℕ → ℕ → ℕ → List ℕ → List ℕ
+stored l i k [] = l
+stored l i k (v ∷ vs) = stored (set l (i + k) v) i (suc k) vs
+
+pub stored_is : (vs l : List ℕ) (i k : ℕ) → stored l i k vs ≡ sets l (i + k) vs
+stored_is [] l i k = refl
+stored_is (v ∷ vs) l i k = stored_is vs (set l (i + k) v) i (suc k) ∙ ap (λ (m : ℕ). sets (set l (i + k) v) m vs) (add-suc i k)
+
+-- the first elements after a store at their end
+pub take-sets : (vs l : List ℕ) (i : ℕ) → i + length vs ≤ length l → take (i + length vs) (sets l i vs) ≡ take i l ++ vs
+take-sets vs l i h =
+    let first : length (take i l ++ vs) ≡ i + length vs = simp (length-append) (omega (arith, length-take-le i l (omega arith))) in
+    rw (sets-eq vs l i h) (take_at (take i l ++ vs) (drop (i + length vs) l) (i + length vs) first)

@@ -1,21 +1,23 @@
 -- Bytes xored into words, word by word: word j is xored with the number that the bytes make in it, its window.
 -- Assumes nothing.
 use mathlib.Core.Bool.{cond}
-use mathlib.Core.Path.{◌≡◌, refl, sym, ap, ◌∙◌}
+use mathlib.Core.Path.{◌≡◌, refl, sym, ap, ◌∙◌, subst}
 use mathlib.Core.List.{List, [], ◌∷◌, ◌++◌}
 use Prim.Native.Nat.{ℕ, zero, suc, ◌+◌, ◌-◌, ◌*◌, ◌/◌, ◌%◌, ◌^◌, ◌≤◌, ◌<◌}
 use native.Mathlib.Decide.{dec_lt, ℕ_discrete}
 use native.Mathlib.Nat.{add-zero, add-suc, suc-add, sub-zero, mul-one}
 use native.Mathlib.Omega.{arith}
 use borrow.Author.Tests.{eq-eqb, ne_eqb}
+use lib.Arith.{digits_lt}
 use lib.Bits.{bit_xor, xor_zero_r}
 use lib.Dec.{eqb}
+use lib.Pow.{pow-add}
 use lib.ListN.{length, get_or, set, take, drop, replicate, drop_of_length-le, length-set, length-drop, length-replicate, take-append-drop}
-use lib.Seq.{get_or-set_same, get_or-set_other, drop-drop, length-take-le}
+use lib.Seq.{get_or-set_same, get_or-set_other, drop-cons, drop-drop, length-take-le}
 use Rattle.word.specs.Bytes.{weight, xor_word, xor_at, xor_from, window, from_bytes, words_of}
 use Rattle.word.proofs.Arrays.{listed, listed_same, written_out}
 use Rattle.word.proofs.Lists.{zeros-at}
-use Rattle.word.proofs.Bytes.{xor_assoc, Bytes, part_bytes, window-within}
+use Rattle.word.proofs.Bytes.{xor_assoc, xor_joined, Bytes, part_bytes, window-within}
 
 -- ---- windows
 
@@ -69,6 +71,29 @@ window-done bs k i j past = go (dec_lt i (length bs))
     go (no l) =
         let all : length bs ≤ i = omega arith in
         rw (drop_of_length-le bs all)
+
+-- the next byte, which stands in word j, and then what is left
+pub window-next : (bs : List ℕ) (k i j : ℕ) → i < length bs → (k + i) / 8 ≡ j
+    → window (k + i) (drop i bs) j ≡ bit_xor (get_or bs i 0 * weight (k + i)) (window (k + (i + 1)) (drop (i + 1) bs) j)
+unfolding window
+window-next bs k i j h e =
+    let next : k + (i + 1) ≡ suc (k + i) = omega arith in
+    let one : i + 1 ≡ suc i = omega arith in
+    rw (drop-cons bs i 0 h, next, one, eq-eqb ((k + i) / 8) j e)
+
+-- a number of p bytes and one byte more: how large it is, and what it makes where q bits follow it
+pub next-byte-lt : (x b p : ℕ) → x < 2 ^ (8 * p) → b < 256 → x * 256 + b < 2 ^ (8 * suc p)
+next-byte-lt x b p h l =
+    let places : 8 * suc p ≡ 8 * p + 8 = omega arith in
+    subst (λ (y : ℕ). x * 256 + b < y) (sym (ap (λ (n : ℕ). 2 ^ n) places ∙ pow-add 2 (8 * p) 8)) (digits_lt h l)
+
+pub next-byte_xor : (x b q w : ℕ) → b < 256 → bit_xor ((x * 256 + b) * 2 ^ q) w ≡ bit_xor (x * 2 ^ (8 + q)) (bit_xor (b * 2 ^ q) w)
+next-byte_xor x b q w l = ap (λ (y : ℕ). bit_xor y w) (sym (xor_joined x b 8 q l)) ∙ xor_assoc (x * 2 ^ (8 + q)) (b * 2 ^ q) w
+
+-- eight bytes that are word j
+pub window-word : (bs : List ℕ) (j : ℕ) → Bytes bs → length bs ≡ 8 → window (8 * j) bs j ≡ from_bytes bs
+window-word bs j h e =
+    ap (λ (k : ℕ). window k bs j) (sym (add-zero (8 * j))) ∙ window-within bs j 0 0 h (omega (arith, e)) ∙ mul-one (from_bytes bs)
 
 -- bytes that stand i words further on make the same numbers i words further on
 pub window-moved : (bs : List ℕ) (i k j : ℕ) → window (8 * i + k) bs (i + j) ≡ window k bs j
