@@ -3,11 +3,11 @@
 -- The laws are for the reader, and tie `answer_of` to its numbers: no proof cites them, and with another `answer_of` they do not hold.
 -- Assumes nothing.
 use mathlib.Core.Bool.{true≢false}
-use Rattle.std.proofs.Common.{◌≡◌, refl, sym, ap, ◌∙◌, ℕ, Bool, true}
+use Rattle.std.proofs.Common.{◌≡◌, refl, sym, ap, ◌∙◌, ℕ, Bool, true, cond, eqb, ne_eqb}
 use Rattle.std.specs.Prelude.{Result, Ok, Err}
 use Rattle.checks.specs.declared.refusal.Refusal.{Refusal}
-use Rattle.checks.specs.Refusals.{answer_number}
-use Rattle.checks.proofs.Refusals.{refusal_number-positive, numbers-apart}
+use Rattle.checks.specs.Refusals.{refusal_number, answer_number}
+use Rattle.checks.proofs.Refusals.{refusal_number-positive, numbered, numbered-back}
 use Rattle.calls.specs.declared.Accepted.{Accepted}
 use Rattle.calls.specs.declared.Accepted.TheVariants.{Opened, Counted, Judged, Summed}
 use Rattle.calls.specs.Answer.{Answer, answer_of, of_open, of_count, of_check, of_sum}
@@ -31,71 +31,44 @@ number-read (Ok (Judged passed runs)) = refl
 number-read (Ok (Summed n)) = refl
 number-read (Err refusal) = refl
 
--- ---- two answers of one call that have the same numbers are the same
+-- ---- an answer is had back from its numbers, where it is known which call's it is
 
-refusals-alike : (x y : Refusal) → answer_of (Err x) ≡ answer_of (Err y) → ◌≡◌ {A = Result Accepted Refusal} (Err x) (Err y)
-refusals-alike x y e = ap Err (numbers-apart x y (ap (λ (a : Answer). a.refusal) e))
+-- by what an accepted call's answer is of them
+abbrev pub read_back : (Answer → Accepted) → Answer → Result Accepted Refusal
+read_back accept a = cond (eqb a.refusal 0) (Ok (accept a)) (Err (numbered a.refusal))
 
--- a refusal has a number, and no accepted call's answer has
-not_accepted : {A : Type 0} (a : Answer) (x : Refusal) → a.refusal ≡ 0 → answer_of (Err x) ≡ a → A
-not_accepted a x z e = absurd (refusal_number-positive x (ap (λ (b : Answer). b.refusal) e ∙ z))
+refused-back : (accept : Answer → Accepted) (x : Refusal) → read_back accept (answer_of (Err x)) ≡ Err x
+refused-back accept x = rw (ne_eqb (refusal_number x) 0 (refusal_number-positive x)) (ap Err (numbered-back x))
 
-pub opens-alike : (a b : Result Accepted Refusal) → of_open a ≡ true → of_open b ≡ true → answer_of a ≡ answer_of b → a ≡ b
-opens-alike (Err x) (Err y) p q e = refusals-alike x y e
-opens-alike (Err x) (Ok (Opened s m)) p q e = not_accepted (answer_of (Ok (Opened s m))) x refl e
-opens-alike (Ok (Opened t n)) (Err y) p q e = not_accepted (answer_of (Ok (Opened t n))) y refl (sym e)
-opens-alike (Ok (Opened t n)) (Ok (Opened s m)) p q e = λ i. Ok (Opened (e i).ticket (e i).runs)
-opens-alike (Ok (Counted n)) b p q e = absurd (true≢false (sym p))
-opens-alike (Ok (Judged v n)) b p q e = absurd (true≢false (sym p))
-opens-alike (Ok (Summed n)) b p q e = absurd (true≢false (sym p))
-opens-alike (Err x) (Ok (Counted m)) p q e = absurd (true≢false (sym q))
-opens-alike (Ok (Opened t n)) (Ok (Counted m)) p q e = absurd (true≢false (sym q))
-opens-alike (Err x) (Ok (Judged w m)) p q e = absurd (true≢false (sym q))
-opens-alike (Ok (Opened t n)) (Ok (Judged w m)) p q e = absurd (true≢false (sym q))
-opens-alike (Err x) (Ok (Summed m)) p q e = absurd (true≢false (sym q))
-opens-alike (Ok (Opened t n)) (Ok (Summed m)) p q e = absurd (true≢false (sym q))
+pub open-back : (a : Result Accepted Refusal) → of_open a ≡ true → read_back (λ (a : Answer). Opened a.ticket a.runs) (answer_of a) ≡ a
+open-back (Err x) p = refused-back (λ (a : Answer). Opened a.ticket a.runs) x
+open-back (Ok (Opened t n)) p = refl
+open-back (Ok (Counted n)) p = absurd (true≢false (sym p))
+open-back (Ok (Judged v n)) p = absurd (true≢false (sym p))
+open-back (Ok (Summed n)) p = absurd (true≢false (sym p))
 
-pub counts-alike : (a b : Result Accepted Refusal) → of_count a ≡ true → of_count b ≡ true → answer_of a ≡ answer_of b → a ≡ b
-counts-alike (Err x) (Err y) p q e = refusals-alike x y e
-counts-alike (Err x) (Ok (Counted m)) p q e = not_accepted (answer_of (Ok (Counted m))) x refl e
-counts-alike (Ok (Counted n)) (Err y) p q e = not_accepted (answer_of (Ok (Counted n))) y refl (sym e)
-counts-alike (Ok (Counted n)) (Ok (Counted m)) p q e = λ i. Ok (Counted (e i).runs)
-counts-alike (Ok (Opened t n)) b p q e = absurd (true≢false (sym p))
-counts-alike (Ok (Judged v n)) b p q e = absurd (true≢false (sym p))
-counts-alike (Ok (Summed n)) b p q e = absurd (true≢false (sym p))
-counts-alike (Err x) (Ok (Opened s m)) p q e = absurd (true≢false (sym q))
-counts-alike (Ok (Counted n)) (Ok (Opened s m)) p q e = absurd (true≢false (sym q))
-counts-alike (Err x) (Ok (Judged w m)) p q e = absurd (true≢false (sym q))
-counts-alike (Ok (Counted n)) (Ok (Judged w m)) p q e = absurd (true≢false (sym q))
-counts-alike (Err x) (Ok (Summed m)) p q e = absurd (true≢false (sym q))
-counts-alike (Ok (Counted n)) (Ok (Summed m)) p q e = absurd (true≢false (sym q))
+pub count-back : (a : Result Accepted Refusal) → of_count a ≡ true → read_back (λ (a : Answer). Counted a.runs) (answer_of a) ≡ a
+count-back (Err x) p = refused-back (λ (a : Answer). Counted a.runs) x
+count-back (Ok (Opened t n)) p = absurd (true≢false (sym p))
+count-back (Ok (Counted n)) p = refl
+count-back (Ok (Judged v n)) p = absurd (true≢false (sym p))
+count-back (Ok (Summed n)) p = absurd (true≢false (sym p))
 
-pub checks-alike : (a b : Result Accepted Refusal) → of_check a ≡ true → of_check b ≡ true → answer_of a ≡ answer_of b → a ≡ b
-checks-alike (Err x) (Err y) p q e = refusals-alike x y e
-checks-alike (Err x) (Ok (Judged w m)) p q e = not_accepted (answer_of (Ok (Judged w m))) x refl e
-checks-alike (Ok (Judged v n)) (Err y) p q e = not_accepted (answer_of (Ok (Judged v n))) y refl (sym e)
-checks-alike (Ok (Judged v n)) (Ok (Judged w m)) p q e = λ i. Ok (Judged (e i).passed (e i).runs)
-checks-alike (Ok (Opened t n)) b p q e = absurd (true≢false (sym p))
-checks-alike (Ok (Counted n)) b p q e = absurd (true≢false (sym p))
-checks-alike (Ok (Summed n)) b p q e = absurd (true≢false (sym p))
-checks-alike (Err x) (Ok (Opened s m)) p q e = absurd (true≢false (sym q))
-checks-alike (Ok (Judged v n)) (Ok (Opened s m)) p q e = absurd (true≢false (sym q))
-checks-alike (Err x) (Ok (Counted m)) p q e = absurd (true≢false (sym q))
-checks-alike (Ok (Judged v n)) (Ok (Counted m)) p q e = absurd (true≢false (sym q))
-checks-alike (Err x) (Ok (Summed m)) p q e = absurd (true≢false (sym q))
-checks-alike (Ok (Judged v n)) (Ok (Summed m)) p q e = absurd (true≢false (sym q))
+pub check-back : (a : Result Accepted Refusal) → of_check a ≡ true → read_back (λ (a : Answer). Judged a.passed a.runs) (answer_of a) ≡ a
+check-back (Err x) p = refused-back (λ (a : Answer). Judged a.passed a.runs) x
+check-back (Ok (Opened t n)) p = absurd (true≢false (sym p))
+check-back (Ok (Counted n)) p = absurd (true≢false (sym p))
+check-back (Ok (Judged v n)) p = refl
+check-back (Ok (Summed n)) p = absurd (true≢false (sym p))
 
-pub sums-alike : (a b : Result Accepted Refusal) → of_sum a ≡ true → of_sum b ≡ true → answer_of a ≡ answer_of b → a ≡ b
-sums-alike (Err x) (Err y) p q e = refusals-alike x y e
-sums-alike (Err x) (Ok (Summed m)) p q e = not_accepted (answer_of (Ok (Summed m))) x refl e
-sums-alike (Ok (Summed n)) (Err y) p q e = not_accepted (answer_of (Ok (Summed n))) y refl (sym e)
-sums-alike (Ok (Summed n)) (Ok (Summed m)) p q e = λ i. Ok (Summed (e i).sum)
-sums-alike (Ok (Opened t n)) b p q e = absurd (true≢false (sym p))
-sums-alike (Ok (Counted n)) b p q e = absurd (true≢false (sym p))
-sums-alike (Ok (Judged v n)) b p q e = absurd (true≢false (sym p))
-sums-alike (Err x) (Ok (Opened s m)) p q e = absurd (true≢false (sym q))
-sums-alike (Ok (Summed n)) (Ok (Opened s m)) p q e = absurd (true≢false (sym q))
-sums-alike (Err x) (Ok (Counted m)) p q e = absurd (true≢false (sym q))
-sums-alike (Ok (Summed n)) (Ok (Counted m)) p q e = absurd (true≢false (sym q))
-sums-alike (Err x) (Ok (Judged w m)) p q e = absurd (true≢false (sym q))
-sums-alike (Ok (Summed n)) (Ok (Judged w m)) p q e = absurd (true≢false (sym q))
+pub sum-back : (a : Result Accepted Refusal) → of_sum a ≡ true → read_back (λ (a : Answer). Summed a.sum) (answer_of a) ≡ a
+sum-back (Err x) p = refused-back (λ (a : Answer). Summed a.sum) x
+sum-back (Ok (Opened t n)) p = absurd (true≢false (sym p))
+sum-back (Ok (Counted n)) p = absurd (true≢false (sym p))
+sum-back (Ok (Judged v n)) p = absurd (true≢false (sym p))
+sum-back (Ok (Summed n)) p = refl
+
+-- so two answers of one call that have the same numbers are the same
+pub same-numbers : (accept : Answer → Accepted) (a b : Result Accepted Refusal)
+    → read_back accept (answer_of a) ≡ a → read_back accept (answer_of b) ≡ b → answer_of a ≡ answer_of b → a ≡ b
+same-numbers accept a b p q e = sym p ∙ ap (read_back accept) e ∙ q

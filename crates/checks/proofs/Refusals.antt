@@ -29,11 +29,15 @@ refusal_number-positive NoTags h = omega (arith, h)
 refusal_number-positive NamedTagLength h = omega (arith, h)
 
 -- the refusal that has a number; the last one where none has
-abbrev numbered : ℕ → Refusal
+abbrev pub numbered : ℕ → Refusal
 numbered n =
-    cond (eqb n 1) NoMode (cond (eqb n 2) KeyLength (cond (eqb n 3) PastEnd (cond (eqb n 4) TagLength (cond (eqb n 5) MessageLength (cond (eqb n 6) OutputLength (cond (eqb n 7) RowLength (cond (eqb n 11) NeverIssued (cond (eqb n 12) Closed (cond (eqb n 13) NoPlace (cond (eqb n 14) AllIssued (cond (eqb n 15) FeedingEnded (cond (eqb n 16) FeedLimit (cond (eqb n 17) DrawLimit (cond (eqb n 18) NoTags NamedTagLength))))))))))))))
+    cond (eqb n 1) NoMode (cond (eqb n 2) KeyLength (cond (eqb n 3) PastEnd (
+    cond (eqb n 4) TagLength (cond (eqb n 5) MessageLength (cond (eqb n 6) OutputLength (
+    cond (eqb n 7) RowLength (cond (eqb n 11) NeverIssued (cond (eqb n 12) Closed (
+    cond (eqb n 13) NoPlace (cond (eqb n 14) AllIssued (cond (eqb n 15) FeedingEnded (
+    cond (eqb n 16) FeedLimit (cond (eqb n 17) DrawLimit (cond (eqb n 18) NoTags NamedTagLength))))))))))))))
 
-numbered-back : (e : Refusal) → numbered (refusal_number e) ≡ e
+pub numbered-back : (e : Refusal) → numbered (refusal_number e) ≡ e
 numbered-back NoMode = refl
 numbered-back KeyLength = refl
 numbered-back PastEnd = refl

@@ -2,7 +2,7 @@
 #![tactic(auto)]
 
 ghost use Rattle.std.specs.Prelude.{◌≡◌, [], ◌∷◌, ◌++◌};
-ghost use Rattle.calls.specs.Answer.{answer_of};
+ghost use Rattle.calls.specs.Answer.{answer_of, Answer as spec_answer};
 ghost use Rattle.calls.specs.Call as call;
 ghost use Rattle.hub.specs.Hub.{draw_hub};
 ghost use Rattle.script.specs.Writing.{Puts};
@@ -38,8 +38,7 @@ fn put_numbered(out: &mut Writer, name: &[u8], n: u64)
     put_number(out, n);
 }
 
-// The fields that are listed of an answer: document 01's five, as numbers and a verdict, since they are only printed. Those that an answer does not have are 0; a line
-// may be of any.
+// The fields that are listed of an answer: document 01's five, as numbers and a verdict, since they are only printed.
 #[derive(Clone, Copy, Default)]
 pub struct Fields {
     pub refusal: u32,
@@ -49,27 +48,46 @@ pub struct Fields {
     pub sum: u64,
 }
 
-fn fields_of(answer: Answer) -> Fields
-    ensures { spec.answer_with result ≡ answer_of answer }
-{
-    let none = Fields::default();
-    match answer {
-        Ok(Accepted::Opened { ticket, runs }) => Fields {
-            ticket,
-            runs,
-            ..none
-        },
-        Ok(Accepted::Counted(runs)) => Fields { runs, ..none },
-        Ok(Accepted::Judged { passed, runs }) => Fields {
-            runs,
-            passed,
-            ..none
-        },
-        Ok(Accepted::Summed(sum)) => Fields { sum, ..none },
-        Err(refusal) => Fields {
-            refusal: refusal.number(),
-            ..none
-        },
+// What a line lists as an answer: that of a call, or five fields of any values.
+pub trait AnswerFields {
+    ghost told: { Self → spec_answer };
+
+    fn fields(self) -> Fields
+        ensures { spec.answer_with result ≡ told self };
+}
+
+impl AnswerFields for Fields {
+    ghost told = { spec.answer_with };
+
+    fn fields(self) -> Fields {
+        self
+    }
+}
+
+// Those that the answer does not have are 0.
+impl AnswerFields for Answer {
+    ghost told = { answer_of };
+
+    fn fields(self) -> Fields {
+        let none = Fields::default();
+        match self {
+            Ok(Accepted::Opened { ticket, runs }) => Fields {
+                ticket,
+                runs,
+                ..none
+            },
+            Ok(Accepted::Counted(runs)) => Fields { runs, ..none },
+            Ok(Accepted::Judged { passed, runs }) => Fields {
+                runs,
+                passed,
+                ..none
+            },
+            Ok(Accepted::Summed(sum)) => Fields { sum, ..none },
+            Err(refusal) => Fields {
+                refusal: refusal.number(),
+                ..none
+            },
+        }
     }
 }
 
@@ -104,20 +122,19 @@ pub fn put_call(out: &mut Writer, name: &[u8], number: u32, bytes: &[u8])
     put_hex_field(out, bytes);
 }
 
-// The line of a call to which no buffer is lent, whatever five fields stand in it.
+// The line of a call to which no buffer is lent.
 #[tactic(auto, using(script::proofs::Texts::parts))]
-pub fn put_fields_line(out: &mut Writer, name: &[u8], number: u32, bytes: &[u8], fields: Fields)
-    ensures { Puts (spec.three_fields name.now number bytes.now ++ spec.response_text (record { answer = spec.answer_with fields; buffer = [] })) out.old out.new }
+pub fn put_line<A: AnswerFields>(
+    out: &mut Writer,
+    name: &[u8],
+    number: u32,
+    bytes: &[u8],
+    answer: A,
+)
+    ensures { Puts (spec.three_fields name.now number bytes.now ++ spec.response_text (record { answer = A.told answer; buffer = [] })) out.old out.new }
 {
     put_call(out, name, number, bytes);
-    put_response(out, fields, b"");
-}
-
-// The same, with the answer of a call.
-pub fn put_line(out: &mut Writer, name: &[u8], number: u32, bytes: &[u8], answer: Answer)
-    ensures { Puts (spec.three_fields name.now number bytes.now ++ spec.response_text (record { answer = answer_of answer; buffer = [] })) out.old out.new }
-{
-    put_fields_line(out, name, number, bytes, fields_of(answer));
+    put_response(out, answer.fields(), b"");
 }
 
 // ---- the calls
@@ -137,7 +154,7 @@ impl Listing<'_, '_> {
     fn took(&mut self, reply: Reply, buffer: &[u8])
         ensures { spec.Listed (spec.response_text (record { answer = answer_of reply.answer; buffer = buffer.now })) reply.hub self.old self.new }
     {
-        put_response(self.out, fields_of(reply.answer), buffer);
+        put_response(self.out, reply.answer.fields(), buffer);
         self.hub = reply.hub;
     }
 
