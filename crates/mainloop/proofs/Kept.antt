@@ -39,16 +39,16 @@ events_behind bytes kept i a h =
     let n : 0 + length (take i kept) ≡ i = omega (arith, length-take-le i kept) in
     events_more 0 bytes (take i kept) a ∙ rw n
 
-pub kept_none : (bytes : List ℕ) → events_kept 0 bytes [] ≡ []
+pub answered_none : (bytes : List ℕ) → events_kept 0 bytes [] ≡ []
 unfolding events_kept
-kept_none bytes = refl
+answered_none bytes = refl
 
-pub kept_next : (bytes : List ℕ) (kept : List Answered) (i : ℕ) (a : Answered) → i < length kept
+pub answered_next : (bytes : List ℕ) (kept : List Answered) (i : ℕ) (a : Answered) → i < length kept
     → events_kept 0 bytes (take (i + 1) (set kept i a)) ≡ events_kept 0 bytes (take i kept) ++ round_events i bytes (answer_of a.fed) (answer_of a.closed)
-kept_next bytes kept i a h = rw (add-one, take-suc-set kept i a h) (events_behind bytes kept i a h)
+answered_next bytes kept i a h = rw (add-one, take-suc-set kept i a h) (events_behind bytes kept i a h)
 
-pub kept_all : (bytes : List ℕ) (kept : List Answered) (i : ℕ) → length kept ≤ i → events_kept 0 bytes (take i kept) ≡ events_kept 0 bytes kept
-kept_all bytes kept i h = ap (events_kept 0 bytes) (take_all i kept h)
+pub answered_all : (bytes : List ℕ) (kept : List Answered) (i : ℕ) → length kept ≤ i → events_kept 0 bytes (take i kept) ≡ events_kept 0 bytes kept
+answered_all bytes kept i h = ap (events_kept 0 bytes) (take_all i kept h)
 
 -- ---- each is an answer of its call's kind
 
@@ -77,24 +77,35 @@ round_lines i bytes fed closed =
     let f : Event = record { call = Close (close_ticket i); response = record { answer = closed; buffer = [] } } in
     ap (λ (t : List ℕ). line e ++ t) (append-nil (line f))
 
-pub text_none : (bytes : List ℕ) → rounds_text 0 bytes [] ≡ []
-unfolding events_kept lines
-text_none bytes = refl
+kept_more : (i : ℕ) (bytes : List ℕ) (some : List Answered) (a : Answered)
+    → rounds_text i bytes (some ++ (a ∷ [])) ≡ rounds_text i bytes some ++ round_text (i + length some) bytes (answer_of a.fed) (answer_of a.closed)
+kept_more i bytes some a =
+    ap lines (events_more i bytes some a)
+    ∙ lines_append (events_kept i bytes some) (round_events (i + length some) bytes (answer_of a.fed) (answer_of a.closed))
+    ∙ ap (λ (t : List ℕ). rounds_text i bytes some ++ t) (round_lines (i + length some) bytes (answer_of a.fed) (answer_of a.closed))
 
-pub text_all : (bytes : List ℕ) (kept : List Answered) (i : ℕ) → length kept ≤ i → rounds_text 0 bytes (take i kept) ≡ rounds_text 0 bytes kept
-text_all bytes kept i h = ap lines (kept_all bytes kept i h)
-
-text_behind : (bytes : List ℕ) (kept : List Answered) (i : ℕ) (a : Answered) → i < length kept
+kept_behind : (bytes : List ℕ) (kept : List Answered) (i : ℕ) (a : Answered) → i < length kept
     → rounds_text 0 bytes (take i kept ++ (a ∷ [])) ≡ rounds_text 0 bytes (take i kept) ++ round_text i bytes (answer_of a.fed) (answer_of a.closed)
-text_behind bytes kept i a h =
-    ap lines (events_behind bytes kept i a h)
-    ∙ lines_append (events_kept 0 bytes (take i kept)) (round_events i bytes (answer_of a.fed) (answer_of a.closed))
-    ∙ ap (λ (t : List ℕ). rounds_text 0 bytes (take i kept) ++ t) (round_lines i bytes (answer_of a.fed) (answer_of a.closed))
+kept_behind bytes kept i a h =
+    let n : 0 + length (take i kept) ≡ i = omega (arith, length-take-le i kept) in
+    kept_more 0 bytes (take i kept) a ∙ rw n
+
+pub kept_none : (bytes : List ℕ) → rounds_text 0 bytes [] ≡ []
+unfolding events_kept lines
+kept_none bytes = refl
+
+-- for the reader: no proof cites it
+pub kept_next : (bytes : List ℕ) (kept : List Answered) (i : ℕ) (a : Answered) → i < length kept
+    → rounds_text 0 bytes (take (i + 1) (set kept i a)) ≡ rounds_text 0 bytes (take i kept) ++ round_text i bytes (answer_of a.fed) (answer_of a.closed)
+kept_next bytes kept i a h = rw (add-one, take-suc-set kept i a h) (kept_behind bytes kept i a h)
+
+pub kept_all : (bytes : List ℕ) (kept : List Answered) (i : ℕ) → length kept ≤ i → rounds_text 0 bytes (take i kept) ≡ rounds_text 0 bytes kept
+kept_all bytes kept i h = ap (rounds_text 0 bytes) (take_all i kept h)
 
 pub listed_next : (bytes : List ℕ) (kept : List Answered) (i : ℕ) (a : Answered) {w v u : Writer} → i < length kept
     → Puts (rounds_text 0 bytes (take i kept)) w v → Puts (round_text i bytes (answer_of (get_or kept i a).fed) (answer_of (get_or kept i a).closed)) v u
     → Puts (rounds_text 0 bytes (take (i + 1) kept)) w u
-listed_next bytes kept i a h some next = rw (take_more kept i a h, text_behind bytes kept i (get_or kept i a) h) (puts_more some next)
+listed_next bytes kept i a h some next = rw (take_more kept i a h, kept_behind bytes kept i (get_or kept i a) h) (puts_more some next)
 
 -- ---- what the two calls of a round leave, and what they are answered
 
@@ -112,7 +123,12 @@ module _ (i : ℕ) (bytes : List ℕ) (h : Hub) where
       record { call = Feed (feed_ticket i) bytes; response = record { answer = fed.response.answer; buffer = feed_leaves (feed_ticket i) bytes h j } } ∷
       record { call = Close (close_ticket i); response = record { answer = closed.response.answer; buffer = close_leaves (close_ticket i) fed.after j } } ∷ []
 
--- by these, the rounds' answers that were kept and those of the next round are all
-pub ruleset rounds_kept = (kept_none, kept_next, kept_all, kinds_none, kinds_next, kinds_all, round_after, round_answered)
+  -- and so what is listed of them, for the reader: no proof cites it
+  pub round_listed : lines (events on_hub h (Feed (feed_ticket i) bytes ∷ Close (close_ticket i) ∷ []))
+      ≡ round_text i bytes (feed_hub (feed_ticket i) bytes h).response.answer (close_hub (close_ticket i) (feed_hub (feed_ticket i) bytes h).after).response.answer
+  round_listed = ap lines round_answered ∙ round_lines i bytes _ _
 
-pub ruleset rounds_listed = (text_none, text_all)
+-- by these, the rounds' answers that were kept and those of the next round are all
+pub ruleset rounds_kept = (answered_none, answered_next, answered_all, kinds_none, kinds_next, kinds_all, round_after, round_answered)
+
+pub ruleset rounds_listed = (kept_none, kept_all)
