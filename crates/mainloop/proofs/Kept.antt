@@ -33,11 +33,13 @@ events_more i bytes (b ∷ some) a =
     let e : suc i + length some ≡ i + suc (length some) = omega arith in
     ap (λ (es : List Event). round_events i bytes (answer_of b.fed) (answer_of b.closed) ++ es) (events_more (suc i) bytes some a ∙ rw e)
 
+-- so many rounds are before round i
+before : (kept : List Answered) (i : ℕ) → i < length kept → 0 + length (take i kept) ≡ i
+before kept i h = omega (arith, length-take-le i kept)
+
 events_behind : (bytes : List ℕ) (kept : List Answered) (i : ℕ) (a : Answered) → i < length kept
     → events_kept 0 bytes (take i kept ++ (a ∷ [])) ≡ events_kept 0 bytes (take i kept) ++ round_events i bytes (answer_of a.fed) (answer_of a.closed)
-events_behind bytes kept i a h =
-    let n : 0 + length (take i kept) ≡ i = omega (arith, length-take-le i kept) in
-    events_more 0 bytes (take i kept) a ∙ rw n
+events_behind bytes kept i a h = events_more 0 bytes (take i kept) a ∙ rw (before kept i h)
 
 pub answered_none : (bytes : List ℕ) → events_kept 0 bytes [] ≡ []
 unfolding events_kept
@@ -86,9 +88,7 @@ kept_more i bytes some a =
 
 kept_behind : (bytes : List ℕ) (kept : List Answered) (i : ℕ) (a : Answered) → i < length kept
     → rounds_text 0 bytes (take i kept ++ (a ∷ [])) ≡ rounds_text 0 bytes (take i kept) ++ round_text i bytes (answer_of a.fed) (answer_of a.closed)
-kept_behind bytes kept i a h =
-    let n : 0 + length (take i kept) ≡ i = omega (arith, length-take-le i kept) in
-    kept_more 0 bytes (take i kept) a ∙ rw n
+kept_behind bytes kept i a h = kept_more 0 bytes (take i kept) a ∙ rw (before kept i h)
 
 pub kept_none : (bytes : List ℕ) → rounds_text 0 bytes [] ≡ []
 unfolding events_kept lines
@@ -107,7 +107,7 @@ pub listed_next : (bytes : List ℕ) (kept : List Answered) (i : ℕ) (a : Answe
     → Puts (rounds_text 0 bytes (take (i + 1) kept)) w u
 listed_next bytes kept i a h some next = rw (take_more kept i a h, kept_behind bytes kept i (get_or kept i a) h) (puts_more some next)
 
--- ---- what the two calls of a round leave, and what they are answered
+-- ---- what the two calls of a round leave, what they are answered, and what is listed of them
 
 module _ (i : ℕ) (bytes : List ℕ) (h : Hub) where
   pub round_after : final on_hub h (Feed (feed_ticket i) bytes ∷ Close (close_ticket i) ∷ []) ≡ (close_hub (close_ticket i) (feed_hub (feed_ticket i) bytes h).after).after
@@ -123,7 +123,7 @@ module _ (i : ℕ) (bytes : List ℕ) (h : Hub) where
       record { call = Feed (feed_ticket i) bytes; response = record { answer = fed.response.answer; buffer = feed_leaves (feed_ticket i) bytes h j } } ∷
       record { call = Close (close_ticket i); response = record { answer = closed.response.answer; buffer = close_leaves (close_ticket i) fed.after j } } ∷ []
 
-  -- and so what is listed of them, for the reader: no proof cites it
+  -- for the reader: no proof cites it
   pub round_listed : lines (events on_hub h (Feed (feed_ticket i) bytes ∷ Close (close_ticket i) ∷ []))
       ≡ round_text i bytes (feed_hub (feed_ticket i) bytes h).response.answer (close_hub (close_ticket i) (feed_hub (feed_ticket i) bytes h).after).response.answer
   round_listed = ap lines round_answered ∙ round_lines i bytes _ _
